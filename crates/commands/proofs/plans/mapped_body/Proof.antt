@@ -1,0 +1,20 @@
+-- `commands::plans::mapped_body` meets its contract: the register's size is what the callee gives.
+-- Assumes nothing.
+use borrow.Author.Needs.{needs}
+use Rattle.commands.proofs.plans.mapped_body.Statement.{statement}
+use Rattle.commands.proofs.plans.mapped_body.Tie as tie
+
+pub mapped-body-spec : {M : Type 1} → statement M
+mapped-body-spec =
+    tie.close
+    (tie.spec
+    -- enum-known-m
+    (λ c. search needs)
+    -- size-of-requires
+    (λ c κs. search needs)
+    -- enum-told
+    (λ c. search needs)
+    -- returns
+    (λ c. rw (c .before .before .m .given .1, c .size-of .ensures))
+    -- returns-2
+    (λ c. search needs))

@@ -1,0 +1,4 @@
+pub mod Registers
+pub mod RegisterLaws
+pub mod Plans
+pub mod PlanLaws

@@ -1,0 +1,56 @@
+-- Laws of the plan: the rule of the table of waits.
+-- Assumes nothing.
+use mathlib.Core.Path.{_≡_, refl, sym, ap, _∙_}
+use Prim.Native.Nat.{ℕ, _+_, _*_, _%_, _<_, _≤_}
+use native.Mathlib.Omega.{arith}
+use mathlib.Core.List.{List, [], _∷_, _++_}
+use lib.Dec.{lit≤, lit<}
+use lib.ListN.{length, getD, List·getD-append}
+use Rattle.units.specs.declared.Wires.{Wires}
+use Rattle.units.specs.declared.Wires.the-variants.{One, Two, Four}
+use Rattle.units.specs.Units.{clocks}
+use Rattle.opcodes.specs.declared.Reading.the-variants as Reads
+use Rattle.opcodes.specs.declared.Kind.{Kind}
+use Rattle.opcodes.specs.declared.Kind.the-variants.{Unknown, Plain, ReadRegister, ReadAny, ReadMode, ReadIdentity, WriteRegister, WriteMode, ReadMemory, WriteMemory, ReadArea, WriteArea}
+use Rattle.commands.specs.Plans.{fixedWaits, waitTable, waitRow, columnOf, waitOf}
+
+pub column-lt : (w : Wires) → columnOf w < 3
+column-lt One = lit< tt
+column-lt Two = lit< tt
+column-lt Four = lit< tt
+
+-- the rows are 0 to 5
+pub row-le : (k : Kind) → waitRow k ≤ 5
+row-le Unknown = lit≤ tt
+row-le (Plain c) = lit≤ tt
+row-le (ReadRegister r) = lit≤ tt
+row-le ReadAny = lit≤ tt
+row-le ReadMode = lit≤ tt
+row-le ReadIdentity = lit≤ tt
+row-le (WriteRegister r) = lit≤ tt
+row-le WriteMode = lit≤ tt
+row-le (ReadMemory Reads.Plain) = lit≤ tt
+row-le (ReadMemory Reads.Fast) = lit≤ tt
+row-le (ReadMemory Reads.Quad) = lit≤ tt
+row-le (ReadMemory Reads.Wrapped) = lit≤ tt
+row-le (WriteMemory s) = lit≤ tt
+row-le ReadArea = lit≤ tt
+row-le WriteArea = lit≤ tt
+
+module _ (k : Kind) (w : Wires) (cr2 : ℕ) where
+  -- a row before the last is fixed
+  pub wait-fixed : (waitRow k ≡ 5 → ⊥) → clocks (getD fixedWaits (3 * waitRow k + columnOf w) 0) ≡ waitOf k w cr2
+  wait-fixed n =
+      let l = row-le k in
+      let m = column-lt w in
+      let h : 3 * waitRow k + columnOf w < length fixedWaits = omega arith in
+      ap clocks (sym (List·getD-append fixedWaits (cr2 % 16 ∷ cr2 % 16 ∷ cr2 % 16 ∷ []) 0 (3 * waitRow k + columnOf w) h))
+
+  last : (v : Wires) → cr2 % 16 ≡ getD (waitTable cr2) (3 * 5 + columnOf v) 0
+  last One = refl
+  last Two = refl
+  last Four = refl
+
+  -- the last is configuration 2
+  pub wait-configured : waitRow k ≡ 5 → clocks (cr2 % 16) ≡ waitOf k w cr2
+  wait-configured e = rw e (ap clocks (last w))

@@ -1,0 +1,60 @@
+-- Registers: sizes and addresses. Document 01, "Commands of part M" (the data column of the register commands, "Register addresses for 65") and
+-- "Commands of part P" (B5, B1 and 9F).
+use Prim.Native.Nat.{ℕ}
+use mathlib.Core.List.{List, [], _∷_}
+use Rattle.basis.specs.Rows.{look}
+use Rattle.units.specs.declared.Bytes.{Bytes}
+use Rattle.units.specs.Units.{bytes}
+use Rattle.parts.specs.declared.Part.{Part}
+use Rattle.parts.specs.declared.Part.the-variants.{M, P}
+use Rattle.opcodes.specs.declared.Register.{Register}
+use Rattle.opcodes.specs.declared.Register.the-variants.{Status, AreaProtection, Configuration1, Configuration2, Configuration3, Configuration4, Configurations, Identity, Unique, Serial, ModeRegister, LongIdentity}
+use Rattle.commands.specs.declared.registers.Mapped.{Mapped}
+use Rattle.commands.specs.declared.registers.Mapped.the-variants.{At, Nowhere}
+
+-- the fixed sizes
+abbrev pub sizeOf : Register → Bytes
+sizeOf Status = bytes 1
+sizeOf AreaProtection = bytes 1
+sizeOf Configuration1 = bytes 1
+sizeOf Configuration2 = bytes 1
+sizeOf Configuration3 = bytes 1
+sizeOf Configuration4 = bytes 1
+sizeOf Configurations = bytes 4
+sizeOf Identity = bytes 4
+sizeOf Unique = bytes 8
+sizeOf Serial = bytes 8
+sizeOf ModeRegister = bytes 1
+sizeOf LongIdentity = bytes 8
+
+-- the place of a register in the code's tables
+abbrev pub numberOf : Register → ℕ
+numberOf Status = 0
+numberOf AreaProtection = 1
+numberOf Configuration1 = 2
+numberOf Configuration2 = 3
+numberOf Configuration3 = 4
+numberOf Configuration4 = 5
+numberOf Configurations = 6
+numberOf Identity = 7
+numberOf Unique = 8
+numberOf Serial = 9
+numberOf ModeRegister = 10
+numberOf LongIdentity = 11
+
+-- The register map: an address that no row has is not in it, and all 24 bits count. Area protection and serial number have no address
+-- (DECISIONS.md, "The register map").
+abbrev pub mapOf : Part → List (ℕ × Mapped)
+mapOf M =
+    (0x00, At Status)
+    ∷ (0x02, At Configuration1)
+    ∷ (0x03, At Configuration2)
+    ∷ (0x04, At Configuration3)
+    ∷ (0x05, At Configuration4)
+    ∷ (0x30, At Identity)
+    ∷ (0x40, At Unique)
+    ∷ []
+mapOf P = []
+
+unfoldable pub mappedOf : Part → ℕ → Mapped
+mappedOf p address = look Nowhere (mapOf p) address

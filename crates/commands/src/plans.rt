@@ -1,0 +1,185 @@
+// The plan of a command: what its clocks are for.
+ghost use mathlib.Core.Path.{_≡_};
+ghost use Rattle.commands.specs.Plans.{columnOf, waitRow, waitOf, restWires, addressOf, mappedBody, bodyOf, planOf};
+use crate::registers::Mapped;
+use crate::registers::register_at;
+use crate::registers::size_of;
+use opcodes::Kind;
+use opcodes::Reading;
+use opcodes::Register;
+use opcodes::Writing;
+use parts::Part;
+use units::Bytes;
+use units::Clocks;
+use units::Wires;
+
+// What the address of a command names, if it has one.
+pub enum Address {
+    Absent,
+    InMemory,
+    InArea,
+    InMap,
+    LowNibbleZero,
+    Ignored,
+}
+
+// The data of a command: none, so many bytes, or as many as are clocked.
+pub enum Body {
+    Nothing,
+    FixedRead(Bytes),
+    AnyRead,
+    FixedWrite(Bytes),
+    AnyWrite,
+}
+
+// The wires of the command byte and of all that follows it, the address, the wait, the data.
+pub struct Plan {
+    pub command: Wires,
+    pub rest: Wires,
+    pub address: Address,
+    pub wait: Clocks,
+    pub body: Body,
+}
+
+// Waits in clocks, a row for each wait that the papers name: on one, two and four wires.
+const WAITS: [usize; 15] = [0, 0, 0, 8, 4, 2, 8, 0, 4, 6, 0, 6, 8, 0, 6];
+
+// The row of a command's wait.
+fn wait_row(k: Kind) -> usize
+    ensures { λ r. ⌜ r ≡ waitRow k ⌝ }
+{
+    match k {
+        Kind::Unknown => 0,
+        Kind::Plain(_) => 0,
+        Kind::ReadRegister(_) => 0,
+        Kind::ReadAny => 1,
+        Kind::ReadMode => 4,
+        Kind::ReadIdentity => 0,
+        Kind::WriteRegister(_) => 0,
+        Kind::WriteMode => 0,
+        Kind::ReadMemory(r) => match r {
+            Reading::Plain => 0,
+            Reading::Fast => 2,
+            Reading::Quad => 3,
+            Reading::Wrapped => 4,
+        },
+        Kind::WriteMemory(_) => 0,
+        Kind::ReadArea => 5,
+        Kind::WriteArea => 0,
+    }
+}
+
+// The column of a bus mode.
+fn column(w: Wires) -> usize
+    ensures { λ r. ⌜ r ≡ columnOf w ⌝ }
+{
+    match w {
+        Wires::One => 0,
+        Wires::Two => 1,
+        Wires::Four => 2,
+    }
+}
+
+// The clocks between address and data. The last row, which only the augmented read of part M has, is
+// configuration 2.
+pub fn wait_of(k: Kind, w: Wires, cr2: u8) -> Clocks
+    ensures { λ r. ⌜ r ≡ waitOf k w cr2 ⌝ }
+{
+    let row = wait_row(k);
+    if row == 5 {
+        return Clocks((cr2 % 16) as usize);
+    }
+    Clocks(WAITS[3 * row + column(w)])
+}
+
+// The wires of all that follows the command byte.
+pub fn rest_wires(k: Kind, w: Wires) -> Wires
+    ensures { λ r. ⌜ r ≡ restWires k w ⌝ }
+{
+    match k {
+        Kind::Unknown => w,
+        Kind::Plain(_) => w,
+        Kind::ReadRegister(_) => w,
+        Kind::ReadAny => w,
+        Kind::ReadMode => w,
+        Kind::ReadIdentity => w,
+        Kind::WriteRegister(_) => w,
+        Kind::WriteMode => w,
+        Kind::ReadMemory(r) => match r {
+            Reading::Plain => w,
+            Reading::Fast => w,
+            Reading::Quad => Wires::Four,
+            Reading::Wrapped => w,
+        },
+        Kind::WriteMemory(r) => match r {
+            Writing::Plain => w,
+            Writing::Quad => Wires::Four,
+        },
+        Kind::ReadArea => w,
+        Kind::WriteArea => w,
+    }
+}
+
+// What the address of a command names.
+pub fn address_of(k: Kind) -> Address
+    ensures { λ r. ⌜ r ≡ addressOf k ⌝ }
+{
+    match k {
+        Kind::Unknown => Address::Absent,
+        Kind::Plain(_) => Address::Absent,
+        Kind::ReadRegister(_) => Address::Absent,
+        Kind::ReadAny => Address::InMap,
+        Kind::ReadMode => Address::LowNibbleZero,
+        Kind::ReadIdentity => Address::Ignored,
+        Kind::WriteRegister(_) => Address::Absent,
+        Kind::WriteMode => Address::LowNibbleZero,
+        Kind::ReadMemory(_) => Address::InMemory,
+        Kind::WriteMemory(_) => Address::InMemory,
+        Kind::ReadArea => Address::InArea,
+        Kind::WriteArea => Address::InArea,
+    }
+}
+
+// The data of a register read by address: as long as the register that the address names.
+fn mapped_body(m: Mapped) -> Body
+    ensures { λ r. ⌜ r ≡ mappedBody m ⌝ }
+{
+    match m {
+        Mapped::At(r) => Body::FixedRead(size_of(r)),
+        Mapped::Nowhere => Body::Nothing,
+    }
+}
+
+// The data of a command. The address counts where it names the register that is read.
+pub fn body_of(part: Part, k: Kind, address: u32) -> Body
+    ensures { λ r. ⌜ r ≡ bodyOf part k address ⌝ }
+{
+    match k {
+        Kind::Unknown => Body::Nothing,
+        Kind::Plain(_) => Body::Nothing,
+        Kind::ReadRegister(r) => Body::FixedRead(size_of(r)),
+        Kind::ReadAny => mapped_body(register_at(part, address)),
+        Kind::ReadMode => Body::FixedRead(size_of(Register::ModeRegister)),
+        Kind::ReadIdentity => Body::FixedRead(size_of(Register::LongIdentity)),
+        Kind::WriteRegister(r) => Body::FixedWrite(size_of(r)),
+        Kind::WriteMode => Body::FixedWrite(size_of(Register::ModeRegister)),
+        Kind::ReadMemory(_) => Body::AnyRead,
+        Kind::WriteMemory(_) => Body::AnyWrite,
+        Kind::ReadArea => Body::AnyRead,
+        Kind::WriteArea => Body::AnyWrite,
+    }
+}
+
+// The plan of a command for part, bus mode and configuration 2; `address` is the one that was read, or
+// 0 while there is none.
+pub fn plan_of(part: Part, w: Wires, cr2: u8, k: Kind, address: u32) -> Plan
+    ensures { λ r. ⌜ r ≡ planOf part w cr2 k address ⌝ }
+{
+    Plan {
+        command: w,
+        rest: rest_wires(k, w),
+        address: address_of(k),
+        wait: wait_of(k, w, cr2),
+        body: body_of(part, k, address),
+    }
+}

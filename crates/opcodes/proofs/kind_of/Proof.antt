@@ -1,0 +1,27 @@
+-- `opcodes::kind_of` meets its contract: the part picks its entry of the row, the bus mode decides.
+-- Assumes nothing.
+use mathlib.Core.Path.{_∙_, ap}
+use Rattle.opcodes.specs.declared.Row.{Row}
+use Rattle.opcodes.specs.Kinds.{kindIn}
+use borrow.Author.Needs.{needs}
+use Rattle.opcodes.proofs.kind_of.Statement.{statement}
+use Rattle.opcodes.proofs.kind_of.Tie as tie
+
+pub kind-of-spec : {M : Type 1} → statement M
+kind-of-spec =
+    tie.close
+    (tie.spec
+    -- row-of-requires
+    (λ c κs. search needs)
+    -- enum-told
+    (λ c. search needs)
+    -- kind-in-requires
+    (λ c κs. search needs)
+    -- enum-told-2
+    (λ c. search needs)
+    -- kind-in-requires-2
+    (λ c κs. search needs)
+    -- returns
+    (λ c. rw (c .before .enum-told .given .1) (c .kind-in .ensures ∙ ap (λ (r : Row). kindIn (r .kindm) (r .modesm) (c .before .before .before .before .args .w)) (c .before .before .before .row-of .ensures)))
+    -- returns-2
+    (λ c. rw (c .before .enum-told2 .given .1) (c .kind-in2 .ensures ∙ ap (λ (r : Row). kindIn (r .kindp) (r .modesp) (c .before .before .before .before .args .w)) (c .before .before .before .row-of .ensures))))

@@ -1,0 +1,133 @@
+// What tells one part from another: the parts and their limits, and the lengths and shares that their
+// registers choose.
+ghost use mathlib.Core.Path.{_≡_};
+ghost use Rattle.parts.specs.Parts.{partOf, knownPart, leastOf, mostOf, areaOf, sectionOf};
+ghost use Rattle.parts.specs.Lengths.{wrapOf, groupOf, shareOf};
+use units::Bytes;
+
+// Part M, the serial MRAM.
+pub struct Mram;
+
+impl Mram {
+    pub const NUMBER: u8 = 1;
+
+    pub const LEAST: u8 = 10;
+
+    pub const MOST: u8 = 21;
+
+    pub const AREA: usize = 256;
+
+    pub const SECTION: usize = 32;
+}
+
+// Part P, the serial PSRAM. It has no augmented area.
+pub struct Psram;
+
+impl Psram {
+    pub const NUMBER: u8 = 2;
+
+    pub const LEAST: u8 = 10;
+
+    pub const MOST: u8 = 21;
+
+    pub const AREA: usize = 0;
+
+    pub const SECTION: usize = 0;
+}
+
+pub enum Part {
+    M,
+    P,
+}
+
+impl Part {
+    // The part of a number that stands for one; M for any other number.
+    pub fn of(number: u8) -> Self
+        ensures { λ r. ⌜ r ≡ partOf number ⌝ }
+    {
+        match number {
+            Psram::NUMBER => Part::P,
+            _ => Part::M,
+        }
+    }
+
+    // Whether a number stands for a part.
+    pub fn is_known(number: u8) -> bool
+        ensures { λ r. ⌜ r ≡ knownPart number ⌝ }
+    {
+        match number {
+            Mram::NUMBER => true,
+            Psram::NUMBER => true,
+            _ => false,
+        }
+    }
+
+    // The smallest and the largest n of a memory of 2^n bytes.
+    pub fn least(self) -> u8
+        ensures { λ r. ⌜ r ≡ leastOf self ⌝ }
+    {
+        match self {
+            Part::M => Mram::LEAST,
+            Part::P => Psram::LEAST,
+        }
+    }
+
+    pub fn most(self) -> u8
+        ensures { λ r. ⌜ r ≡ mostOf self ⌝ }
+    {
+        match self {
+            Part::M => Mram::MOST,
+            Part::P => Psram::MOST,
+        }
+    }
+
+    // The bytes of the augmented area, and of each of its sections.
+    pub fn area(self) -> Bytes
+        ensures { λ r. ⌜ r ≡ areaOf self ⌝ }
+    {
+        match self {
+            Part::M => Bytes(Mram::AREA),
+            Part::P => Bytes(Psram::AREA),
+        }
+    }
+
+    pub fn section(self) -> Bytes
+        ensures { λ r. ⌜ r ≡ sectionOf self ⌝ }
+    {
+        match self {
+            Part::M => Bytes(Mram::SECTION),
+            Part::P => Bytes(Psram::SECTION),
+        }
+    }
+}
+
+// Bytes of an aligned group of part M, by the code in configuration 3. The codes that a record cannot
+// have go on in the same way.
+const WRAPS: [usize; 8] = [16, 32, 64, 128, 256, 512, 1024, 2048];
+
+// Bytes of an aligned group of part P, by the code in the mode register.
+const GROUPS: [usize; 4] = [16, 32, 64, 512];
+
+// Protected parts of memory out of 64, by the code in the status register.
+const SHARES: [usize; 8] = [0, 1, 2, 4, 8, 16, 32, 64];
+
+// The group inside which memory reads of part M wrap, by configuration 3.
+pub fn wrap_length(cr3: u8) -> Bytes
+    ensures { λ r. ⌜ r ≡ wrapOf cr3 ⌝ }
+{
+    Bytes(WRAPS[(cr3 % 8) as usize])
+}
+
+// The group inside which part P wraps, by the mode register.
+pub fn group_length(mr0: u8) -> Bytes
+    ensures { λ r. ⌜ r ≡ groupOf mr0 ⌝ }
+{
+    Bytes(GROUPS[(mr0 / 32 % 4) as usize])
+}
+
+// How many of 64 equal parts of memory the status register protects.
+pub fn share(status: u8) -> usize
+    ensures { λ r. ⌜ r ≡ shareOf status ⌝ }
+{
+    SHARES[(status / 4 % 8) as usize]
+}

@@ -1,0 +1,36 @@
+-- Laws of clocks and bytes, for any wires.
+-- Assumes nothing.
+use mathlib.Core.Path.{_≡_, refl, ap}
+use Prim.Native.Nat.{ℕ, _+_, _*_, _/_, _%_, _<_, _≤_}
+use native.Mathlib.Nat.{mul-div-cancel, div-add-mod'}
+use native.Mathlib.Omega.{arith}
+use lib.Dec.{lit<}
+use Rattle.units.specs.declared.Clocks.{Clocks}
+use Rattle.units.specs.declared.Bytes.{Bytes}
+use Rattle.units.specs.declared.Wires.{Wires}
+use Rattle.units.specs.declared.Wires.the-variants.{One, Two, Four}
+use Rattle.units.specs.Units.{clocks, bytes, wiresOf, perByte, clocksOf, wholeOf, unfinishedOf}
+
+-- a byte is eight bits on any wires
+pub bits-of-byte : (w : Wires) → wiresOf w * perByte w ≡ 8
+bits-of-byte One = refl
+bits-of-byte Two = refl
+bits-of-byte Four = refl
+
+pub perByte-pos : (w : Wires) → 0 < perByte w
+perByte-pos One = lit< tt
+perByte-pos Two = lit< tt
+perByte-pos Four = lit< tt
+
+pub perByte-le : (w : Wires) → perByte w ≤ 8
+perByte-le One = omega arith
+perByte-le Two = omega arith
+perByte-le Four = omega arith
+
+-- the clocks of whole bytes carry just these bytes
+pub whole-of-clocks : (w : Wires) (b : Bytes) → wholeOf w (clocksOf w b) ≡ b
+whole-of-clocks w b = ap bytes (mul-div-cancel (b .0) (perByte-pos w))
+
+-- clocks are those of their whole bytes and the unfinished ones
+pub clocks-split : (w : Wires) (c : Clocks) → clocks (clocksOf w (wholeOf w c) .0 + unfinishedOf w c .0) ≡ c
+clocks-split w c = ap clocks (div-add-mod' (c .0) (perByte w))

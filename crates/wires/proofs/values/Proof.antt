@@ -1,0 +1,16 @@
+-- `wires::values` meets its contract: each arm is the power of its wires.
+-- Assumes nothing.
+use borrow.Author.Needs.{needs}
+use Rattle.wires.proofs.values.Statement.{statement}
+use Rattle.wires.proofs.values.Tie as tie
+
+pub values-spec : {M : Type 1} → statement M
+values-spec =
+    tie.close
+    (tie.spec
+    (λ c. search needs)
+    (λ c. search needs)
+    (λ c. search needs)
+    (λ c. rw (c .enum-told .given .1))
+    (λ c. rw (c .enum-told2 .given .1))
+    (λ c. rw (c .enum-told3 .given .1)))

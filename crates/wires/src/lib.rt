@@ -1,0 +1,78 @@
+// The leaf: what one clock carries, in and out, on one, two or four wires.
+//
+// A contract here says no more than `result ≡ definition`, and stays as it is when the inside changes.
+ghost use mathlib.Core.Path.{_≡_};
+ghost use Prim.Native.Nat.{_^_};
+ghost use Rattle.units.specs.Units.{wiresOf};
+ghost use Rattle.wires.specs.Bits.{bitsOf, shiftOf, groupOf};
+ghost use Rattle.wires.specs.Levels.{levelOf, seenOf, drivenOf};
+use units::Clocks;
+use units::Wires;
+
+// How many values the bits of one clock have.
+pub fn values(w: Wires) -> u8
+    ensures { λ r. ⌜ r ≡ 2 ^ wiresOf w ⌝ }
+{
+    match w {
+        Wires::One => 2,
+        Wires::Two => 4,
+        Wires::Four => 16,
+    }
+}
+
+// The bits that a sample carries on these wires. The other wires are ignored.
+pub fn bits(x: u8, w: Wires) -> u8
+    ensures { λ r. ⌜ r ≡ bitsOf w x ⌝ }
+{
+    x % values(w)
+}
+
+// The number gathered so far, with the bits of one more sample below it.
+pub fn shift_in(number: u32, x: u8, w: Wires) -> u32
+    ensures { λ r. ⌜ r ≡ shiftOf w number x ⌝ }
+{
+    let n = number as u64;
+    let v = values(w) as u64;
+    let b = bits(x, w) as u64;
+    ((n * v + b) % 16777216) as u32
+}
+
+// The bits of the byte `b` that travel in clock `k` of it, counted from 0.
+pub fn group(b: u8, k: Clocks, w: Wires) -> u8
+    ensures { λ r. ⌜ r ≡ groupOf w k b ⌝ }
+{
+    match w {
+        Wires::One => (b >> (7 - k.0 % 8)) % 2,
+        Wires::Two => (b >> (2 * (3 - k.0 % 4))) % 4,
+        Wires::Four => (b >> (4 * (1 - k.0 % 2))) % 16,
+    }
+}
+
+// The output byte of a clock in which the device drives these bits.
+pub fn level(v: u8, w: Wires) -> u8
+    ensures { λ r. ⌜ r ≡ levelOf w v ⌝ }
+{
+    match w {
+        Wires::One => 0x20 + 2 * (v % 2),
+        Wires::Two => 0x30 + v % 4,
+        Wires::Four => 0xF0 + v % 16,
+    }
+}
+
+// The bits that an output byte shows.
+pub fn seen(x: u8, w: Wires) -> u8
+    ensures { λ r. ⌜ r ≡ seenOf w x ⌝ }
+{
+    match w {
+        Wires::One => x / 2 % 2,
+        Wires::Two => x % 4,
+        Wires::Four => x % 16,
+    }
+}
+
+// Whether the device ever drives this output byte on these wires.
+pub fn is_driven(x: u8, w: Wires) -> bool
+    ensures { λ r. ⌜ r ≡ drivenOf w x ⌝ }
+{
+    x == level(seen(x, w), w)
+}
