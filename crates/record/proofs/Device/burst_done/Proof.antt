@@ -1,0 +1,16 @@
+-- `record::Device::burst_done` meets its contract: the latch is what the rule says.
+-- Assumes nothing.
+use borrow.Author.Needs.{needs}
+use Rattle.record.proofs.Device.burst_done.Statement.{statement}
+use Rattle.record.proofs.Device.burst_done.Tie as tie
+
+pub burst-done-spec : {M : Type 1} → statement M
+burst-done-spec =
+    tie.close
+    (tie.spec
+    -- after-burst-requires
+    (λ c κs. search needs)
+    -- latched-requires
+    (λ c κs. search needs)
+    -- returns
+    (λ c. rw (c .latched .ensures, c .before .after-burst .ensures)))

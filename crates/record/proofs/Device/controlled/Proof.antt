@@ -1,0 +1,74 @@
+-- `record::Device::controlled` meets its contract: each arm is what its callee gives.
+-- Assumes nothing.
+use borrow.Author.Needs.{needs}
+use Rattle.record.proofs.Device.controlled.Statement.{statement}
+use Rattle.record.proofs.Device.controlled.Tie as tie
+
+pub controlled-spec : {M : Type 1} → statement M
+controlled-spec =
+    tie.close
+    (tie.spec
+    -- enum-told
+    (λ c. search needs)
+    -- enum-told-2
+    (λ c. search needs)
+    -- latched-requires
+    (λ c κs. search needs)
+    -- enum-told-3
+    (λ c. search needs)
+    -- latched-requires-2
+    (λ c κs. search needs)
+    -- enum-told-4
+    (λ c. search needs)
+    -- in-mode-requires
+    (λ c κs. search needs)
+    -- enum-told-5
+    (λ c. search needs)
+    -- in-mode-requires-2
+    (λ c κs. search needs)
+    -- enum-told-6
+    (λ c. search needs)
+    -- in-mode-requires-3
+    (λ c κs. search needs)
+    -- enum-told-7
+    (λ c. search needs)
+    -- asleep-requires
+    (λ c κs. search needs)
+    -- enum-told-8
+    (λ c. search needs)
+    -- asleep-requires-2
+    (λ c κs. search needs)
+    -- enum-told-9
+    (λ c. search needs)
+    -- armed-requires
+    (λ c κs. search needs)
+    -- enum-told-10
+    (λ c. search needs)
+    -- reset-requires
+    (λ c κs. search needs)
+    -- enum-told-11
+    (λ c. search needs)
+    -- toggled-requires
+    (λ c κs. search needs)
+    -- returns
+    (λ c. rw (c .enum-told .given .1))
+    -- returns-2
+    (λ c. rw (c .before .enum-told2 .given .1, c .latched .ensures))
+    -- returns-3
+    (λ c. rw (c .before .enum-told3 .given .1, c .latched2 .ensures))
+    -- returns-4
+    (λ c. rw (c .before .enum-told4 .given .1, c .in-mode .ensures))
+    -- returns-5
+    (λ c. rw (c .before .enum-told5 .given .1, c .in-mode2 .ensures))
+    -- returns-6
+    (λ c. rw (c .before .enum-told6 .given .1, c .in-mode3 .ensures))
+    -- returns-7
+    (λ c. rw (c .before .enum-told7 .given .1, c .asleep .ensures))
+    -- returns-8
+    (λ c. rw (c .before .enum-told8 .given .1, c .asleep2 .ensures))
+    -- returns-9
+    (λ c. rw (c .before .enum-told9 .given .1, c .armed .ensures))
+    -- returns-10
+    (λ c. rw (c .before .enum-told10 .given .1, c .reset .ensures))
+    -- returns-11
+    (λ c. rw (c .before .struct-known .given .1, c .before .before .enum-told11 .given .1, c .toggled .ensures)))

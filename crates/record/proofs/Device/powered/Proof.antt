@@ -1,0 +1,18 @@
+-- `record::Device::powered` meets its contract: the three callees, one after the other.
+-- Assumes nothing.
+use borrow.Author.Needs.{needs}
+use Rattle.record.proofs.Device.powered.Statement.{statement}
+use Rattle.record.proofs.Device.powered.Tie as tie
+
+pub powered-spec : {M : Type 1} → statement M
+powered-spec =
+    tie.close
+    (tie.spec
+    -- reset-requires
+    (λ c κs. search needs)
+    -- asleep-requires
+    (λ c κs. search needs)
+    -- armed-requires
+    (λ c κs. search needs)
+    -- returns
+    (λ c. rw (c .armed .ensures, c .before .asleep .ensures, c .before .before .reset .ensures)))

@@ -1,0 +1,18 @@
+-- `record::Device::register_done` meets its contract: the latch goes by the write mode before the write.
+-- Assumes nothing.
+use borrow.Author.Needs.{needs}
+use Rattle.record.proofs.Device.register_done.Statement.{statement}
+use Rattle.record.proofs.Device.register_done.Tie as tie
+
+pub register-done-spec : {M : Type 1} → statement M
+register-done-spec =
+    tie.close
+    (tie.spec
+    -- after-register-requires
+    (λ c κs. search needs)
+    -- written-requires
+    (λ c κs. search needs)
+    -- latched-requires
+    (λ c κs. search needs)
+    -- returns
+    (λ c. rw (c .latched .ensures, c .before .written .ensures, c .before .before .after-register .ensures)))

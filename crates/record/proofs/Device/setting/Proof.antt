@@ -1,0 +1,16 @@
+-- `record::Device::setting` meets its contract: part and wires are what the callees give.
+-- Assumes nothing.
+use borrow.Author.Needs.{needs}
+use Rattle.record.proofs.Device.setting.Statement.{statement}
+use Rattle.record.proofs.Device.setting.Tie as tie
+
+pub setting-spec : {M : Type 1} → statement M
+setting-spec =
+    tie.close
+    (tie.spec
+    -- of-requires
+    (λ c κs. search needs)
+    -- mode-wires-requires
+    (λ c κs. search needs)
+    -- returns
+    (λ c. rw (c .mode-wires .ensures, c .before .of .ensures)))

@@ -1,0 +1,20 @@
+-- `record::latch_needed` meets its contract: part M goes by the kind; part P needs no latch.
+-- Assumes nothing.
+use borrow.Author.Needs.{needs}
+use Rattle.record.proofs.latch_needed.Statement.{statement}
+use Rattle.record.proofs.latch_needed.Tie as tie
+
+pub latch-needed-spec : {M : Type 1} → statement M
+latch-needed-spec =
+    tie.close
+    (tie.spec
+    -- enum-told
+    (λ c. search needs)
+    -- kind-needs-requires
+    (λ c κs. search needs)
+    -- enum-told-2
+    (λ c. search needs)
+    -- returns
+    (λ c. rw (c .before .enum-told .given .1, c .kind-needs .ensures))
+    -- returns-2
+    (λ c. search needs))

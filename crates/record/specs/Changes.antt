@@ -1,0 +1,159 @@
+-- What changes a record. Document 01, "Commands of part M" (control, register writes, latch), "Commands of part P" (mode register, toggle) and
+-- "Reset and power"; the left column of "Answer numbers".
+use Prim.Native.Nat.{ℕ}
+use mathlib.Core.Bool.{Bool, true, false, cond, not}
+use mathlib.Core.List.{List}
+use lib.ListN.{getD}
+use Rattle.parts.specs.declared.Part.{Part}
+use Rattle.parts.specs.declared.Part.the-variants.{M, P}
+use Rattle.parts.specs.Parts.{partOf}
+use Rattle.opcodes.specs.declared.Control.{Control}
+use Rattle.opcodes.specs.declared.Control.the-variants.{NoOperation, WriteEnable, WriteDisable, ToOne, ToTwo, ToFour, Sleep, Wake, ResetEnable, Reset, Toggle}
+use Rattle.opcodes.specs.declared.Register.{Register}
+use Rattle.opcodes.specs.declared.Register.the-variants.{Status, AreaProtection, Configuration1, Configuration2, Configuration3, Configuration4, Configurations, Identity, Unique, Serial, ModeRegister, LongIdentity}
+use Rattle.opcodes.specs.declared.Kind.{Kind}
+use Rattle.opcodes.specs.declared.Kind.the-variants as Kinds
+use Rattle.record.specs.declared.Answer.{Answer}
+use Rattle.record.specs.declared.Answer.the-variants.{Done, Size, Sample, State, Short, Unknown, Asleep, Address, Latch, Protected, Reserved, Long, Unarmed}
+use Rattle.record.specs.declared.Registers.{Registers}
+use Rattle.record.specs.declared.Volatile.{Volatile}
+use Rattle.record.specs.declared.Identities.{Identities}
+use Rattle.record.specs.declared.Device.{Device}
+use Rattle.record.specs.Latches.{afterBurst, afterRegister}
+use Rattle.record.specs.Shows.{withoutLatch}
+
+-- a record with other registers, other volatile state or another identity, and all else as it is
+abbrev pub withRegisters : Registers → Device → Device
+withRegisters r d = record { part = d .part; n = d .n; registers = r; volatile = d .volatile; identity = d .identity }
+
+abbrev pub withVolatile : Volatile → Device → Device
+withVolatile v d = record { part = d .part; n = d .n; registers = d .registers; volatile = v; identity = d .identity }
+
+abbrev pub withIdentity : Identities → Device → Device
+withIdentity i d = record { part = d .part; n = d .n; registers = d .registers; volatile = d .volatile; identity = i }
+
+-- ---- volatile state: the latch, the arming, the bus mode, sleep, the toggle
+abbrev pub volatileTo : ℕ → Bool → Bool → Bool → Bool → Device → Device
+volatileTo mode latch armed asleep toggle d =
+    withVolatile (record { mode = mode; latch = latch; armed = armed; asleep = asleep; toggle = toggle }) d
+
+abbrev pub latchTo : Bool → Device → Device
+latchTo up d = volatileTo (d .volatile .mode) up (d .volatile .armed) (d .volatile .asleep) (d .volatile .toggle) d
+
+abbrev pub armTo : Bool → Device → Device
+armTo on d = volatileTo (d .volatile .mode) (d .volatile .latch) on (d .volatile .asleep) (d .volatile .toggle) d
+
+abbrev pub modeTo : ℕ → Device → Device
+modeTo mode d = volatileTo mode (d .volatile .latch) (d .volatile .armed) (d .volatile .asleep) (d .volatile .toggle) d
+
+abbrev pub sleepTo : Bool → Device → Device
+sleepTo on d = volatileTo (d .volatile .mode) (d .volatile .latch) (d .volatile .armed) on (d .volatile .toggle) d
+
+abbrev pub toggleTo : Bool → Device → Device
+toggleTo on d = volatileTo (d .volatile .mode) (d .volatile .latch) (d .volatile .armed) (d .volatile .asleep) on d
+
+-- ---- reset and power
+abbrev pub modeRegisterTo : ℕ → Device → Device
+modeRegisterTo v d =
+    let r = d .registers in
+    withRegisters (record { status = r .status; protection = r .protection; cr1 = r .cr1; cr2 = r .cr2; cr3 = r .cr3; cr4 = r .cr4; mr0 = v }) d
+
+-- M: latch down, mode 1. P: mode 1, MR0 60h, toggle off. All else is kept.
+abbrev pub resetFor : Part → Device → Device
+resetFor M d = latchTo false (modeTo 1 d)
+resetFor P d = toggleTo false (modeRegisterTo 0x60 (modeTo 1 d))
+
+abbrev pub resetOf : Device → Device
+resetOf d = resetFor (partOf (d .part)) d
+
+-- a power cycle does the same, wakes and disarms
+abbrev pub poweredOf : Device → Device
+poweredOf d = armTo false (sleepTo false (resetOf d))
+
+-- ---- commands without data
+abbrev pub controlled : Control → Device → Device
+controlled NoOperation d = d
+controlled WriteEnable d = latchTo true d
+controlled WriteDisable d = latchTo false d
+controlled ToOne d = modeTo 1 d
+controlled ToTwo d = modeTo 2 d
+controlled ToFour d = modeTo 4 d
+controlled Sleep d = sleepTo true d
+controlled Wake d = sleepTo false d
+controlled ResetEnable d = armTo true d
+controlled Reset d = resetOf d
+controlled Toggle d = toggleTo (not (d .volatile .toggle)) d
+
+-- ---- register writes
+abbrev pub statusTo : ℕ → Device → Device
+statusTo v d =
+    let r = d .registers in
+    withRegisters (record { status = withoutLatch v; protection = r .protection; cr1 = r .cr1; cr2 = r .cr2; cr3 = r .cr3; cr4 = r .cr4; mr0 = r .mr0 }) d
+
+abbrev pub protectionTo : ℕ → Device → Device
+protectionTo v d =
+    let r = d .registers in
+    withRegisters (record { status = r .status; protection = v; cr1 = r .cr1; cr2 = r .cr2; cr3 = r .cr3; cr4 = r .cr4; mr0 = r .mr0 }) d
+
+abbrev pub configurationsTo : List ℕ → Device → Device
+configurationsTo v d =
+    let r = d .registers in
+    withRegisters
+    (record { status = r .status; protection = r .protection; cr1 = getD v 0 0; cr2 = getD v 1 0; cr3 = getD v 2 0; cr4 = getD v 3 0; mr0 = r .mr0 })
+    d
+
+abbrev pub serialTo : List ℕ → Device → Device
+serialTo v d = withIdentity (record { device = d .identity .device; unique = d .identity .unique; serial = v }) d
+
+-- The bytes v, byte 0 first, put into a register: status drops its bit 1, the configurations go in together, the serial number is replaced whole.
+-- No command writes the others.
+abbrev pub writtenTo : Register → List ℕ → Device → Device
+writtenTo Status v d = statusTo (getD v 0 0) d
+writtenTo AreaProtection v d = protectionTo (getD v 0 0) d
+writtenTo Configuration1 v d = d
+writtenTo Configuration2 v d = d
+writtenTo Configuration3 v d = d
+writtenTo Configuration4 v d = d
+writtenTo Configurations v d = configurationsTo v d
+writtenTo Identity v d = d
+writtenTo Unique v d = d
+writtenTo Serial v d = serialTo v d
+writtenTo ModeRegister v d = modeRegisterTo (getD v 0 0) d
+writtenTo LongIdentity v d = d
+
+-- ---- what a command done does to the record, and what each answer leaves
+abbrev pub burstDone : Device → Device
+burstDone d = latchTo (afterBurst (d .registers .cr4) (d .volatile .latch)) d
+
+abbrev pub registerDone : Register → List ℕ → Device → Device
+registerDone r v d = latchTo (afterRegister (d .registers .cr4) (d .volatile .latch)) (writtenTo r v d)
+
+abbrev pub effectOf : Kind → List ℕ → Device → Device
+effectOf Kinds.Unknown v d = d
+effectOf (Kinds.Plain c) v d = controlled c d
+effectOf (Kinds.ReadRegister r) v d = d
+effectOf Kinds.ReadAny v d = d
+effectOf Kinds.ReadMode v d = d
+effectOf Kinds.ReadIdentity v d = d
+effectOf (Kinds.WriteRegister r) v d = registerDone r v d
+effectOf Kinds.WriteMode v d = writtenTo ModeRegister v d
+effectOf (Kinds.ReadMemory s) v d = d
+effectOf (Kinds.WriteMemory s) v d = burstDone d
+effectOf Kinds.ReadArea v d = d
+effectOf Kinds.WriteArea v d = burstDone d
+
+-- Answers 1 to 3 change nothing. Every other transaction disarms, but for 66, which arms when it is done. 9 moves the latch as the write would have.
+abbrev pub settledOf : Kind → List ℕ → Answer → Device → Device
+settledOf k v Done d = effectOf k v (armTo false d)
+settledOf k v Size d = d
+settledOf k v Sample d = d
+settledOf k v State d = d
+settledOf k v Short d = armTo false d
+settledOf k v Unknown d = armTo false d
+settledOf k v Asleep d = armTo false d
+settledOf k v Address d = armTo false d
+settledOf k v Latch d = armTo false d
+settledOf k v Protected d = burstDone (armTo false d)
+settledOf k v Reserved d = armTo false d
+settledOf k v Long d = armTo false d
+settledOf k v Unarmed d = armTo false d

@@ -1,0 +1,43 @@
+-- The write latch. Document 01, "Commands of part M", the paragraph "Latch". The write mode is CR4[1:0] as it is before the write. Part P has no
+-- latch.
+use Prim.Native.Nat.{ℕ, _%_}
+use mathlib.Core.Bool.{Bool, true, false, cond, not}
+use lib.Dec.{eqb}
+use Rattle.parts.specs.declared.Part.{Part}
+use Rattle.parts.specs.declared.Part.the-variants.{M, P}
+use Rattle.opcodes.specs.declared.Kind.{Kind}
+use Rattle.opcodes.specs.declared.Kind.the-variants.{Unknown, Plain, ReadRegister, ReadAny, ReadMode, ReadIdentity, WriteRegister, WriteMode, ReadMemory, WriteMemory, ReadArea, WriteArea}
+
+abbrev pub writeMode : ℕ → ℕ
+writeMode cr4 = cr4 % 4
+
+-- memory and augmented writes need it in modes 0 and 2, not in 1
+abbrev pub burstNeeds : ℕ → Bool
+burstNeeds cr4 = not (eqb (writeMode cr4) 1)
+
+-- register writes need it in every mode; nothing else needs it
+abbrev pub kindNeeds : ℕ → Kind → Bool
+kindNeeds cr4 Unknown = false
+kindNeeds cr4 (Plain c) = false
+kindNeeds cr4 (ReadRegister r) = false
+kindNeeds cr4 ReadAny = false
+kindNeeds cr4 ReadMode = false
+kindNeeds cr4 ReadIdentity = false
+kindNeeds cr4 (WriteRegister r) = true
+kindNeeds cr4 WriteMode = false
+kindNeeds cr4 (ReadMemory s) = false
+kindNeeds cr4 (WriteMemory s) = burstNeeds cr4
+kindNeeds cr4 ReadArea = false
+kindNeeds cr4 WriteArea = burstNeeds cr4
+
+abbrev pub latchNeeded : Part → ℕ → Kind → Bool
+latchNeeded M cr4 k = kindNeeds cr4 k
+latchNeeded P cr4 k = false
+
+-- a memory or augmented write answered 0 or 9 drops it in mode 0 and keeps it in 1 and 2
+abbrev pub afterBurst : ℕ → Bool → Bool
+afterBurst cr4 latch = cond (eqb (writeMode cr4) 0) false latch
+
+-- a register write done drops it in modes 0 and 1 and keeps it in 2
+abbrev pub afterRegister : ℕ → Bool → Bool
+afterRegister cr4 latch = cond (eqb (writeMode cr4) 2) latch false

@@ -1,0 +1,6 @@
+pub mod Answers
+pub mod Devices
+pub mod Fresh
+pub mod Latches
+pub mod Changes
+pub mod Shows

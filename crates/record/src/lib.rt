@@ -1,0 +1,482 @@
+// The device record, by value: all that a chip is, but for the memory and the area that are lent to it.
+//
+// A record is plain data and may hold any numbers at all; whether they are those of a chip is a check of
+// its own. What changes a record is a method that takes it and returns the next.
+ghost use mathlib.Core.Path.{_≡_};
+ghost use lib.ListN.{getD};
+ghost use Rattle.record.specs.Answers.{numberOf};
+ghost use Rattle.record.specs.Devices.{wiresOf, settingOf};
+ghost use Rattle.record.specs.Fresh.{freshM, freshP};
+ghost use Rattle.record.specs.Changes.{latchTo, armTo, modeTo, sleepTo, toggleTo, resetOf, poweredOf, controlled, writtenTo, burstDone, registerDone, effectOf, settledOf};
+ghost use Rattle.record.specs.Latches.{kindNeeds, latchNeeded, afterBurst, afterRegister};
+ghost use Rattle.record.specs.Shows.{withoutLatch, statusShown, shown, shownByte};
+use opcodes::Control;
+use opcodes::Kind;
+use opcodes::Register;
+use parts::Part;
+use units::Bytes;
+use units::Wires;
+
+// What a call is answered. `answer_number` has the papers' numbers.
+pub enum Answer {
+    Done,
+    Size,
+    Sample,
+    State,
+    Short,
+    Unknown,
+    Asleep,
+    Address,
+    Latch,
+    Protected,
+    Reserved,
+    Long,
+    Unarmed,
+}
+
+pub fn answer_number(a: Answer) -> u8
+    ensures { λ r. ⌜ r ≡ numberOf a ⌝ }
+{
+    match a {
+        Answer::Done => 0,
+        Answer::Size => 1,
+        Answer::Sample => 2,
+        Answer::State => 3,
+        Answer::Short => 4,
+        Answer::Unknown => 5,
+        Answer::Asleep => 6,
+        Answer::Address => 7,
+        Answer::Latch => 8,
+        Answer::Protected => 9,
+        Answer::Reserved => 10,
+        Answer::Long => 11,
+        Answer::Unarmed => 12,
+    }
+}
+
+// The registers that keep their contents without power, and part P's mode register.
+pub struct Registers {
+    pub status: u8,
+    pub protection: u8,
+    pub cr1: u8,
+    pub cr2: u8,
+    pub cr3: u8,
+    pub cr4: u8,
+    pub mr0: u8,
+}
+
+// What a reset or a power cycle puts back: the bus mode (1, 2 or 4), the write latch, the arming of a
+// reset, sleep, and part P's toggle.
+pub struct Volatile {
+    pub mode: u8,
+    pub latch: bool,
+    pub armed: bool,
+    pub asleep: bool,
+    pub toggle: bool,
+}
+
+// Identity and serial number, byte 0 first. Part M's device identity has four bytes, and the others
+// are 0.
+pub struct Identities {
+    pub device: [u8; 8],
+    pub unique: [u8; 8],
+    pub serial: [u8; 8],
+}
+
+pub struct Device {
+    pub part: u8,
+    pub n: u8,
+    pub registers: Registers,
+    pub volatile: Volatile,
+    pub identity: Identities,
+}
+
+// What neither latch nor arming has a part in: all that the rules of clocks, addresses and places ask of
+// a record, with the part and the wires of the bus mode as types.
+pub struct Setting {
+    pub part: Part,
+    pub wires: Wires,
+    pub n: u8,
+    pub asleep: bool,
+    pub toggle: bool,
+    pub registers: Registers,
+}
+
+// The wires of a bus mode.
+pub fn mode_wires(mode: u8) -> Wires
+    ensures { λ r. ⌜ r ≡ wiresOf mode ⌝ }
+{
+    match mode {
+        2 => Wires::Two,
+        4 => Wires::Four,
+        _ => Wires::One,
+    }
+}
+
+impl Device {
+    // A fresh chip of part M.
+    pub fn fresh_m(n: u8, device: [u8; 4], unique: [u8; 8]) -> Self
+        ensures { λ r. ⌜ r ≡ freshM n device unique ⌝ }
+    {
+        Device {
+            part: 1,
+            n,
+            registers: Registers {
+                status: 0,
+                protection: 0,
+                cr1: 0,
+                cr2: 0x08,
+                cr3: 0,
+                cr4: 0x05,
+                mr0: 0,
+            },
+            volatile: Volatile {
+                mode: 1,
+                latch: false,
+                armed: false,
+                asleep: false,
+                toggle: false,
+            },
+            identity: Identities {
+                device: [device[0], device[1], device[2], device[3], 0, 0, 0, 0],
+                unique,
+                serial: [0u8; 8],
+            },
+        }
+    }
+
+    // A fresh chip of part P.
+    pub fn fresh_p(n: u8, device: [u8; 8]) -> Self
+        ensures { λ r. ⌜ r ≡ freshP n device ⌝ }
+    {
+        Device {
+            part: 2,
+            n,
+            registers: Registers {
+                status: 0,
+                protection: 0,
+                cr1: 0,
+                cr2: 0,
+                cr3: 0,
+                cr4: 0,
+                mr0: 0x60,
+            },
+            volatile: Volatile {
+                mode: 1,
+                latch: false,
+                armed: false,
+                asleep: false,
+                toggle: false,
+            },
+            identity: Identities {
+                device,
+                unique: [0u8; 8],
+                serial: [0u8; 8],
+            },
+        }
+    }
+
+    pub fn setting(self) -> Setting
+        ensures { λ r. ⌜ r ≡ settingOf self ⌝ }
+    {
+        let registers = self.registers;
+        Setting {
+            part: Part::of(self.part),
+            wires: mode_wires(self.volatile.mode),
+            n: self.n,
+            asleep: self.volatile.asleep,
+            toggle: self.volatile.toggle,
+            registers,
+        }
+    }
+
+    // The latch up or down.
+    pub fn latched(mut self, up: bool) -> Self
+        ensures { λ r. ⌜ r ≡ latchTo up self ⌝ }
+    {
+        self.volatile.latch = up;
+        self
+    }
+
+    // Armed for a reset, or not.
+    pub fn armed(mut self, on: bool) -> Self
+        ensures { λ r. ⌜ r ≡ armTo on self ⌝ }
+    {
+        self.volatile.armed = on;
+        self
+    }
+
+    pub fn in_mode(mut self, mode: u8) -> Self
+        ensures { λ r. ⌜ r ≡ modeTo mode self ⌝ }
+    {
+        self.volatile.mode = mode;
+        self
+    }
+
+    pub fn asleep(mut self, on: bool) -> Self
+        ensures { λ r. ⌜ r ≡ sleepTo on self ⌝ }
+    {
+        self.volatile.asleep = on;
+        self
+    }
+
+    // Part P's toggle on or off.
+    pub fn toggled(mut self, on: bool) -> Self
+        ensures { λ r. ⌜ r ≡ toggleTo on self ⌝ }
+    {
+        self.volatile.toggle = on;
+        self
+    }
+
+    // Latch and mode on part M; mode, mode register and toggle on part P.
+    pub fn reset(mut self) -> Self
+        ensures { λ r. ⌜ r ≡ resetOf self ⌝ }
+    {
+        let part = Part::of(self.part);
+        self.volatile.mode = 1;
+        match part {
+            Part::M => {
+                self.volatile.latch = false;
+                self
+            }
+            Part::P => {
+                self.registers.mr0 = 0x60;
+                self.volatile.toggle = false;
+                self
+            }
+        }
+    }
+
+    // What a power cycle does to the record.
+    pub fn powered(self) -> Self
+        ensures { λ r. ⌜ r ≡ poweredOf self ⌝ }
+    {
+        self.reset().asleep(false).armed(false)
+    }
+
+    // A command without data, done.
+    pub fn controlled(self, c: Control) -> Self
+        ensures { λ r. ⌜ r ≡ controlled c self ⌝ }
+    {
+        match c {
+            Control::NoOperation => self,
+            Control::WriteEnable => self.latched(true),
+            Control::WriteDisable => self.latched(false),
+            Control::ToOne => self.in_mode(1),
+            Control::ToTwo => self.in_mode(2),
+            Control::ToFour => self.in_mode(4),
+            Control::Sleep => self.asleep(true),
+            Control::Wake => self.asleep(false),
+            Control::ResetEnable => self.armed(true),
+            Control::Reset => self.reset(),
+            Control::Toggle => self.toggled(!self.volatile.toggle),
+        }
+    }
+
+    // The bytes of `value` put into a register.
+    pub fn written(mut self, r: Register, value: [u8; 8]) -> Self
+        ensures { λ d. ⌜ d ≡ writtenTo r value self ⌝ }
+    {
+        match r {
+            Register::Status => {
+                let v = without_latch(value[0]);
+                self.registers.status = v;
+                self
+            }
+            Register::AreaProtection => {
+                self.registers.protection = value[0];
+                self
+            }
+            Register::Configuration1 => self,
+            Register::Configuration2 => self,
+            Register::Configuration3 => self,
+            Register::Configuration4 => self,
+            Register::Configurations => {
+                self.registers.cr1 = value[0];
+                self.registers.cr2 = value[1];
+                self.registers.cr3 = value[2];
+                self.registers.cr4 = value[3];
+                self
+            }
+            Register::Identity => self,
+            Register::Unique => self,
+            Register::Serial => {
+                let mut id = self.identity;
+                id.serial = value;
+                self.identity = id;
+                self
+            }
+            Register::ModeRegister => {
+                self.registers.mr0 = value[0];
+                self
+            }
+            Register::LongIdentity => self,
+        }
+    }
+
+    // What a read of a register shows, in eight places.
+    fn shown(self, r: Register) -> [u8; 8]
+        ensures { λ a. ⌜ a ≡ shown self r ⌝ }
+    {
+        match r {
+            Register::Status => {
+                let v = status_shown(self.registers.status, self.volatile.latch);
+                [v, 0, 0, 0, 0, 0, 0, 0]
+            }
+            Register::AreaProtection => [self.registers.protection, 0, 0, 0, 0, 0, 0, 0],
+            Register::Configuration1 => [self.registers.cr1, 0, 0, 0, 0, 0, 0, 0],
+            Register::Configuration2 => [self.registers.cr2, 0, 0, 0, 0, 0, 0, 0],
+            Register::Configuration3 => [self.registers.cr3, 0, 0, 0, 0, 0, 0, 0],
+            Register::Configuration4 => [self.registers.cr4, 0, 0, 0, 0, 0, 0, 0],
+            Register::Configurations => {
+                let s = self.registers;
+                [s.cr1, s.cr2, s.cr3, s.cr4, 0, 0, 0, 0]
+            }
+            Register::Identity => self.identity.device,
+            Register::Unique => self.identity.unique,
+            Register::Serial => self.identity.serial,
+            Register::ModeRegister => [self.registers.mr0, 0, 0, 0, 0, 0, 0, 0],
+            Register::LongIdentity => self.identity.device,
+        }
+    }
+
+    // Byte `i` that a read of a register drives.
+    pub fn shown_byte(self, r: Register, i: Bytes) -> u8
+        ensures { λ b. ⌜ b ≡ shownByte self r i ⌝ }
+    {
+        byte_at(self.shown(r), i)
+    }
+
+    // A memory or augmented write, answered 0 or 9.
+    fn burst_done(self) -> Self
+        ensures { λ r. ⌜ r ≡ burstDone self ⌝ }
+    {
+        self.latched(after_burst(self.registers.cr4, self.volatile.latch))
+    }
+
+    // A register write of part M, done. The write mode that counts is the one before it.
+    fn register_done(self, r: Register, value: [u8; 8]) -> Self
+        ensures { λ d. ⌜ d ≡ registerDone r value self ⌝ }
+    {
+        let latch = after_register(self.registers.cr4, self.volatile.latch);
+        self.written(r, value).latched(latch)
+    }
+
+    // A command of this kind, done.
+    pub fn effect(self, k: Kind, value: [u8; 8]) -> Self
+        ensures { λ r. ⌜ r ≡ effectOf k value self ⌝ }
+    {
+        match k {
+            Kind::Unknown => self,
+            Kind::Plain(c) => self.controlled(c),
+            Kind::ReadRegister(_) => self,
+            Kind::ReadAny => self,
+            Kind::ReadMode => self,
+            Kind::ReadIdentity => self,
+            Kind::WriteRegister(r) => self.register_done(r, value),
+            Kind::WriteMode => self.written(Register::ModeRegister, value),
+            Kind::ReadMemory(_) => self,
+            Kind::WriteMemory(_) => self.burst_done(),
+            Kind::ReadArea => self,
+            Kind::WriteArea => self.burst_done(),
+        }
+    }
+
+    // The record that a transaction leaves when it is answered so.
+    pub fn settled(self, k: Kind, value: [u8; 8], answer: Answer) -> Self
+        ensures { λ r. ⌜ r ≡ settledOf k value answer self ⌝ }
+    {
+        match answer {
+            Answer::Done => self.armed(false).effect(k, value),
+            Answer::Size => self,
+            Answer::Sample => self,
+            Answer::State => self,
+            Answer::Short => self.armed(false),
+            Answer::Unknown => self.armed(false),
+            Answer::Asleep => self.armed(false),
+            Answer::Address => self.armed(false),
+            Answer::Latch => self.armed(false),
+            Answer::Protected => self.armed(false).burst_done(),
+            Answer::Reserved => self.armed(false),
+            Answer::Long => self.armed(false),
+            Answer::Unarmed => self.armed(false),
+        }
+    }
+}
+
+// Byte `i` of eight, and 0 past them.
+fn byte_at(a: [u8; 8], i: Bytes) -> u8
+    ensures { λ r. ⌜ r ≡ getD a (i .0) 0 ⌝ }
+{
+    let at = i.0;
+    if at < 8 {
+        return a[at];
+    }
+    0
+}
+
+// Whether a command of this kind needs the latch.
+pub fn latch_needed(part: Part, cr4: u8, k: Kind) -> bool
+    ensures { λ r. ⌜ r ≡ latchNeeded part cr4 k ⌝ }
+{
+    match part {
+        Part::M => kind_needs(cr4, k),
+        Part::P => false,
+    }
+}
+
+fn kind_needs(cr4: u8, k: Kind) -> bool
+    ensures { λ r. ⌜ r ≡ kindNeeds cr4 k ⌝ }
+{
+    match k {
+        Kind::Unknown => false,
+        Kind::Plain(_) => false,
+        Kind::ReadRegister(_) => false,
+        Kind::ReadAny => false,
+        Kind::ReadMode => false,
+        Kind::ReadIdentity => false,
+        Kind::WriteRegister(_) => true,
+        Kind::WriteMode => false,
+        Kind::ReadMemory(_) => false,
+        Kind::WriteMemory(_) => cr4 % 4 != 1,
+        Kind::ReadArea => false,
+        Kind::WriteArea => cr4 % 4 != 1,
+    }
+}
+
+// The latch after a memory or augmented write that was answered 0 or 9.
+fn after_burst(cr4: u8, latch: bool) -> bool
+    ensures { λ r. ⌜ r ≡ afterBurst cr4 latch ⌝ }
+{
+    match cr4 % 4 {
+        0 => false,
+        _ => latch,
+    }
+}
+
+// The latch after a register write that was done.
+fn after_register(cr4: u8, latch: bool) -> bool
+    ensures { λ r. ⌜ r ≡ afterRegister cr4 latch ⌝ }
+{
+    match cr4 % 4 {
+        2 => latch,
+        _ => false,
+    }
+}
+
+// A status byte without its bit 1.
+fn without_latch(v: u8) -> u8
+    ensures { λ r. ⌜ r ≡ withoutLatch v ⌝ }
+{
+    v / 4 * 4 + v % 2
+}
+
+// The status register as it is read: bit 1 shows the latch.
+pub fn status_shown(v: u8, latch: bool) -> u8
+    ensures { λ r. ⌜ r ≡ statusShown v latch ⌝ }
+{
+    if latch {
+        return without_latch(v) + 2;
+    }
+    without_latch(v)
+}
