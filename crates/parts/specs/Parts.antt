@@ -32,3 +32,8 @@ areaOf P = bytes 0
 abbrev pub sectionOf : Part → Bytes
 sectionOf M = bytes 32
 sectionOf P = bytes 0
+
+-- CR3's codes 0 to 4 name a group of part M, 5 to 7 are reserved; part P has no such register
+abbrev pub wrapCodes : Part → ℕ
+wrapCodes M = 5
+wrapCodes P = 0

@@ -1,7 +1,7 @@
 // What tells one part from another: the parts and their limits, and the lengths and shares that their
 // registers choose.
 ghost use mathlib.Core.Path.{_≡_};
-ghost use Rattle.parts.specs.Parts.{partOf, knownPart, leastOf, mostOf, areaOf, sectionOf};
+ghost use Rattle.parts.specs.Parts.{partOf, knownPart, leastOf, mostOf, areaOf, sectionOf, wrapCodes};
 ghost use Rattle.parts.specs.Lengths.{wrapOf, groupOf, shareOf};
 use units::Bytes;
 
@@ -18,6 +18,8 @@ impl Mram {
     pub const AREA: usize = 256;
 
     pub const SECTION: usize = 32;
+
+    pub const WRAP_CODES: u8 = 5;
 }
 
 // Part P, the serial PSRAM. It has no augmented area.
@@ -33,6 +35,8 @@ impl Psram {
     pub const AREA: usize = 0;
 
     pub const SECTION: usize = 0;
+
+    pub const WRAP_CODES: u8 = 0;
 }
 
 pub enum Part {
@@ -78,6 +82,16 @@ impl Part {
         match self {
             Part::M => Mram::MOST,
             Part::P => Psram::MOST,
+        }
+    }
+
+    // How many codes of configuration 3 name a group; the codes after them are reserved.
+    pub fn wrap_codes(self) -> u8
+        ensures { λ r. ⌜ r ≡ wrapCodes self ⌝ }
+    {
+        match self {
+            Part::M => Mram::WRAP_CODES,
+            Part::P => Psram::WRAP_CODES,
         }
     }
 

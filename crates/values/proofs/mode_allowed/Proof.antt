@@ -1,0 +1,33 @@
+-- `values::mode_allowed` meets its contract: 1 and 4 are modes of both parts, 2 of part M, and no other number is a mode.
+-- Assumes nothing.
+use borrow.Author.Tests.{ne-eqb}
+use Rattle.parts.specs.declared.Part.{Part}
+use Rattle.parts.specs.declared.Part.the-variants.{M, P}
+use mathlib.Core.Path.{_≡_, refl}
+use mathlib.Core.Bool.{true, false}
+use Prim.Native.Nat.{ℕ}
+use Rattle.values.specs.States.{modeAllowed}
+use Rattle.values.specs.StateLaws.{mode-one, mode-four, mode-other}
+use borrow.Author.Needs.{needs}
+use Rattle.values.proofs.mode_allowed.Statement.{statement}
+use Rattle.values.proofs.mode_allowed.Tie as tie
+
+pub mode-allowed-spec : {M : Type 1} → statement M
+unfolding modeAllowed
+mode-allowed-spec =
+    tie.close
+    (tie.spec
+    -- enum-told
+    (λ c. search needs)
+    -- enum-told-2
+    (λ c. search needs)
+    -- returns
+    (λ c. mode-one (c .before .args .part) (c .match .keys1))
+    -- returns-2
+    (λ c. rw (c .enum-told .given .1, c .before .before .match .keys2))
+    -- returns-3
+    (λ c. rw (c .enum-told2 .given .1, c .before .before .match .keys2))
+    -- returns-4
+    (λ c. mode-four (c .before .args .part) (c .match .keys3))
+    -- returns-5
+    (λ c. mode-other (c .before .args .part) (c .match .rest .0 .0 .1) (c .match .rest .0 .1) (c .match .rest .1)))

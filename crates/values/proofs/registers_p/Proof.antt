@@ -1,0 +1,21 @@
+-- `values::registers_p` meets its contract: the other part's registers are 0, and then the mode register decides.
+-- Assumes nothing.
+use borrow.Author.Tests.{not-true, not-false}
+use Rattle.values.specs.States.{registersP, zeros}
+use borrow.Author.Needs.{needs}
+use Rattle.values.proofs.registers_p.Statement.{statement}
+use Rattle.values.proofs.registers_p.Tie as tie
+
+pub registers-p-spec : {M : Type 1} → statement M
+unfolding registersP zeros
+registers-p-spec =
+    tie.close
+    (tie.spec
+    -- all-zero-requires
+    (λ c κs. search needs)
+    -- returns
+    (λ c. rw (← c .before .all-zero .ensures, not-true (c .before .all-zero .result) (c .if1 .taken)))
+    -- mode-register-allowed-requires
+    (λ c κs. search needs)
+    -- returns-2
+    (λ c. rw (← c .before .before .all-zero .ensures, not-false (c .before .before .all-zero .result) (c .before .if1 .left)) (c .mode-register-allowed .ensures)))

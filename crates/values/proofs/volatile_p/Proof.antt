@@ -1,0 +1,20 @@
+-- `values::volatile_p` meets its contract: latch and sleep decide, and then the mode.
+-- Assumes nothing.
+use Rattle.values.specs.States.{volatileP}
+use borrow.Author.Needs.{needs}
+use Rattle.values.proofs.volatile_p.Statement.{statement}
+use Rattle.values.proofs.volatile_p.Tie as tie
+
+pub volatile-p-spec : {M : Type 1} → statement M
+unfolding volatileP
+volatile-p-spec =
+    tie.close
+    (tie.spec
+    -- returns
+    (λ c. rw (c .if1 .taken))
+    -- returns-2
+    (λ c. rw (c .before .if1 .left, c .if2 .taken))
+    -- mode-allowed-requires
+    (λ c κs. search needs)
+    -- returns-3
+    (λ c. rw (c .before .before .if1 .left, c .before .if2 .left) (c .mode-allowed .ensures)))

@@ -1,0 +1,3 @@
+pub mod Values
+pub mod States
+pub mod StateLaws
