@@ -1,0 +1,16 @@
+-- `places::group_in_force` meets its contract: the toggle decides.
+-- Assumes nothing.
+use borrow.Author.Needs.{needs}
+use Rattle.places.proofs.group_in_force.Statement.{statement}
+use Rattle.places.proofs.group_in_force.Tie as tie
+
+pub group-in-force-spec : {M : Type 1} → statement M
+group-in-force-spec =
+    tie.close
+    (tie.spec
+    -- returns
+    (λ c. rw (c .if1 .taken))
+    -- group-length-requires
+    (λ c κs. search needs)
+    -- returns-2
+    (λ c. rw (c .before .if1 .left) (c .group-length .ensures)))

@@ -1,0 +1,20 @@
+-- `places::write_place` meets its contract: store and group are not empty.
+-- Assumes nothing.
+use lib.Pow.{pow-pos}
+use Rattle.places.specs.Laws.{write-span-pos}
+use borrow.Author.Needs.{needs}
+use Rattle.places.proofs.write_place.Statement.{statement}
+use Rattle.places.proofs.write_place.Tie as tie
+
+pub write-place-spec : {M : Type 1} → statement M
+write-place-spec =
+    tie.close
+    (tie.spec
+    -- memory-size-requires
+    (λ c κs. search needs)
+    -- write-span-requires
+    (λ c κs. search needs)
+    -- place-in-requires
+    (λ c κs. rw (c .before .memory-size .ensures, c .write-span .ensures) (record { store = pow-pos (c .before .before .args .s .n); group = write-span-pos (c .before .before .args .s); few = c .before .before .pre .1 }))
+    -- returns
+    (λ c. rw (c .place-in .ensures, c .before .write-span .ensures, c .before .before .memory-size .ensures)))

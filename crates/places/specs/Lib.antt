@@ -1,0 +1,4 @@
+pub mod Addresses
+pub mod Places
+pub mod Protection
+pub mod Laws

@@ -1,0 +1,194 @@
+// Where a burst goes: which addresses are allowed, where each byte of a burst lies, and which bytes are
+// protected.
+//
+// No burst has more bytes than 65,535 clocks can carry, and no memory is larger than an address reaches:
+// the `requires` below say so, and the checks of sizes have seen to both before anything comes here.
+ghost use mathlib.Core.Path.{_≡_};
+ghost use Prim.Native.Nat.{_+_, _<_, _≤_, _^_};
+ghost use Rattle.places.specs.Addresses.{sizeOf, isMapped, memoryAllowed, allowedOf};
+ghost use Rattle.places.specs.Places.{groupInForce, wrapInForce, readSpan, writeSpan, placeIn, readPlace, writePlace, areaPlace};
+ghost use Rattle.places.specs.Laws.{Burst};
+ghost use Rattle.places.specs.Protection.{shutBytes, shutMemory, sectionShut, protectedOf, areaProtectedOf};
+use commands::plans::Address;
+use commands::registers::Mapped;
+use commands::registers::register_at;
+use parts::Mram;
+use parts::Part;
+use record::Setting;
+use units::Bytes;
+
+// The bytes of a memory.
+pub fn memory_size(n: u8) -> Bytes
+    requires { ⌜ n ≤ 24 ⌝ }
+    ensures { λ r. ⌜ r ≡ sizeOf n ⌝ }
+{
+    Bytes(1usize << n)
+}
+
+// Whether 65h found a register.
+fn is_mapped(m: Mapped) -> bool
+    ensures { λ r. ⌜ r ≡ isMapped m ⌝ }
+{
+    match m {
+        Mapped::At(_) => true,
+        Mapped::Nowhere => false,
+    }
+}
+
+// Whether a memory has this address, or drops the bits that it has too many.
+fn memory_allowed(part: Part, n: u8, address: u32) -> bool
+    requires { ⌜ n ≤ 24 ⌝ }
+    ensures { λ r. ⌜ r ≡ memoryAllowed part n address ⌝ }
+{
+    match part {
+        Part::M => (address as usize) < memory_size(n).0,
+        Part::P => true,
+    }
+}
+
+// Whether a command may have this address.
+pub fn allowed(s: Setting, a: Address, address: u32) -> bool
+    requires { ⌜ s .n ≤ 24 ⌝ }
+    ensures { λ r. ⌜ r ≡ allowedOf s a address ⌝ }
+{
+    let part = s.part;
+    match a {
+        Address::Absent => true,
+        Address::InMemory => memory_allowed(part, s.n, address),
+        Address::InArea => (address as usize) < part.area().0,
+        Address::InMap => is_mapped(register_at(part, address)),
+        Address::LowNibbleZero => address % 16 == 0,
+        Address::Ignored => true,
+    }
+}
+
+// Part P's group in force.
+fn group_in_force(mr0: u8, toggle: bool) -> Bytes
+    ensures { λ r. ⌜ r ≡ groupInForce mr0 toggle ⌝ }
+{
+    if toggle {
+        return Bytes(32);
+    }
+    parts::group_length(mr0)
+}
+
+// The group of part M's memory reads.
+fn wrap_in_force(n: u8, cr3: u8) -> Bytes
+    requires { ⌜ n ≤ 24 ⌝ }
+    ensures { λ r. ⌜ r ≡ wrapInForce n cr3 ⌝ }
+{
+    if cr3 / 16 % 2 == 1 {
+        return parts::wrap_length(cr3);
+    }
+    memory_size(n)
+}
+
+// The group inside which memory reads come round.
+pub fn read_span(s: Setting) -> Bytes
+    requires { ⌜ s .n ≤ 24 ⌝ }
+    ensures { λ r. ⌜ r ≡ readSpan s ⌝ }
+{
+    let part = s.part;
+    match part {
+        Part::M => wrap_in_force(s.n, s.registers.cr3),
+        Part::P => group_in_force(s.registers.mr0, s.toggle),
+    }
+}
+
+// The group inside which memory writes come round.
+pub fn write_span(s: Setting) -> Bytes
+    requires { ⌜ s .n ≤ 24 ⌝ }
+    ensures { λ r. ⌜ r ≡ writeSpan s ⌝ }
+{
+    let part = s.part;
+    match part {
+        Part::M => memory_size(s.n),
+        Part::P => group_in_force(s.registers.mr0, s.toggle),
+    }
+}
+
+// Where byte `i` of a burst lies, in a store of `size` bytes and groups of `span`.
+fn place_in(size: Bytes, span: Bytes, address: u32, i: Bytes) -> usize
+    requires { ⌜ Burst size span i ⌝ }
+    ensures { λ r. ⌜ r ≡ placeIn size span address i ⌝ }
+{
+    let store = size.0;
+    let group = span.0;
+    let past = i.0;
+    let a = (address as usize) % store;
+    a / group * group + (a + past) % group
+}
+
+// Where byte `i` of a memory read lies.
+pub fn read_place(s: Setting, address: u32, i: Bytes) -> usize
+    requires { ⌜ (s .n ≤ 24) × (i .0 ≤ 65535) ⌝ }
+    ensures { λ r. ⌜ r ≡ readPlace s address i ⌝ }
+{
+    place_in(memory_size(s.n), read_span(s), address, i)
+}
+
+// Where byte `i` of a memory write lies.
+pub fn write_place(s: Setting, address: u32, i: Bytes) -> usize
+    requires { ⌜ (s .n ≤ 24) × (i .0 ≤ 65535) ⌝ }
+    ensures { λ r. ⌜ r ≡ writePlace s address i ⌝ }
+{
+    place_in(memory_size(s.n), write_span(s), address, i)
+}
+
+// Where byte `i` of a read or write of the area lies.
+pub fn area_place(part: Part, address: u32, i: Bytes) -> usize
+    requires { ⌜ i .0 ≤ 65535 ⌝ }
+    ensures { λ r. ⌜ r ≡ areaPlace part address i ⌝ }
+{
+    match part {
+        Part::M => place_in(Bytes(Mram::AREA), Bytes(Mram::AREA), address, i),
+        Part::P => 0,
+    }
+}
+
+// Whether the status register protects this place of a memory.
+fn shut_memory(n: u8, status: u8, place: usize) -> bool
+    requires { ⌜ n ≤ 24 ⌝ }
+    ensures { λ r. ⌜ r ≡ shutMemory n status place ⌝ }
+{
+    let store = memory_size(n);
+    let size = store.0;
+    let shut = size / 64 * parts::share(status);
+    if status / 32 % 2 == 1 {
+        return place < shut;
+    }
+    size - shut <= place
+}
+
+// Whether a section of the area is protected.
+fn section_shut(protection: u8, section: usize) -> bool
+    ensures { λ r. ⌜ r ≡ sectionShut protection section ⌝ }
+{
+    if section < 8 {
+        return (protection >> section) % 2 == 1;
+    }
+    false
+}
+
+// Whether the byte of memory at this place is protected.
+pub fn protected(s: Setting, place: usize) -> bool
+    requires { ⌜ s .n ≤ 24 ⌝ }
+    ensures { λ r. ⌜ r ≡ protectedOf s place ⌝ }
+{
+    let part = s.part;
+    match part {
+        Part::M => shut_memory(s.n, s.registers.status, place),
+        Part::P => false,
+    }
+}
+
+// Whether the byte of the area at this place is protected.
+pub fn area_protected(s: Setting, place: usize) -> bool
+    ensures { λ r. ⌜ r ≡ areaProtectedOf s place ⌝ }
+{
+    let part = s.part;
+    match part {
+        Part::M => section_shut(s.registers.protection, place / Mram::SECTION),
+        Part::P => false,
+    }
+}
