@@ -1,1 +1,2 @@
-// Words and laws that every definition of the project is written with. There is no code here.
+// Tables as definitions and their laws: rows that decide, constant tables, tables of examples. There is no
+// code here.

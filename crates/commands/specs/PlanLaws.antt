@@ -1,9 +1,9 @@
 -- Laws of the plan: the rule of the table of waits.
 -- Assumes nothing.
-use mathlib.Core.Path.{_≡_, refl, sym, ap, _∙_}
+use mathlib.Core.Path.{_≡_, refl, sym, ap}
 use Prim.Native.Nat.{ℕ, _+_, _*_, _%_, _<_, _≤_}
 use native.Mathlib.Omega.{arith}
-use mathlib.Core.List.{List, [], _∷_, _++_}
+use mathlib.Core.List.{[], _∷_}
 use lib.Dec.{lit≤, lit<}
 use lib.ListN.{length, getD, List·getD-append}
 use Rattle.units.specs.declared.Wires.{Wires}

@@ -20,10 +20,9 @@ use Rattle.commands.specs.declared.plans.Address.the-variants.{Absent, I
 use Rattle.commands.specs.declared.plans.Body.{Body}
 use Rattle.commands.specs.declared.plans.Body.the-variants.{Nothing, FixedRead, AnyRead, FixedWrite, AnyWrite}
 use Rattle.commands.specs.declared.plans.Plan.{Plan}
-use Rattle.commands.specs.Registers.{sizeOf, mappedOf}
+use Rattle.commands.specs.Registers.{bytesOf, mappedOf}
 
 -- The waits that the papers name, in clocks: each row on one wire, on two, on four. Part P has no bus mode of two wires, and its rows have 0 there.
--- The last row is configuration 2, CR2[3:0], which is a number of clocks too.
 abbrev pub fixedWaits : List ℕ
 fixedWaits =
     -- row 0: every command that has no row of its own
@@ -38,6 +37,7 @@ fixedWaits =
     ∷ 8 ∷ 0 ∷ 6
     ∷ []
 
+-- after them, row 5: 4B, whose wait stands in CR2[3:0], a number of clocks too
 abbrev pub waitTable : ℕ → List ℕ
 waitTable cr2 = fixedWaits ++ (cr2 % 16 ∷ cr2 % 16 ∷ cr2 % 16 ∷ [])
 
@@ -66,24 +66,24 @@ columnOf On.Four = 2
 abbrev pub waitOf : Kind → Wires → ℕ → Clocks
 waitOf k w cr2 = clocks (getD (waitTable cr2) (3 * waitRow k + columnOf w) 0)
 
--- EB and 38 have their command on the wires of the bus mode and all else on four; every other command keeps to the bus mode
-abbrev pub restWires : Kind → Wires → Wires
-restWires Unknown w = w
-restWires (Plain c) w = w
-restWires (ReadRegister r) w = w
-restWires ReadAny w = w
-restWires ReadMode w = w
-restWires ReadIdentity w = w
-restWires (WriteRegister r) w = w
-restWires WriteMode w = w
-restWires (ReadMemory Reads.Plain) w = w
-restWires (ReadMemory Reads.Fast) w = w
-restWires (ReadMemory Reads.Quad) w = On.Four
-restWires (ReadMemory Reads.Wrapped) w = w
-restWires (WriteMemory Writes.Plain) w = w
-restWires (WriteMemory Writes.Quad) w = On.Four
-restWires ReadArea w = w
-restWires WriteArea w = w
+-- part P's EB and 38 have all but their command on four wires; every other command keeps to the bus mode
+abbrev pub laterWires : Kind → Wires → Wires
+laterWires Unknown w = w
+laterWires (Plain c) w = w
+laterWires (ReadRegister r) w = w
+laterWires ReadAny w = w
+laterWires ReadMode w = w
+laterWires ReadIdentity w = w
+laterWires (WriteRegister r) w = w
+laterWires WriteMode w = w
+laterWires (ReadMemory Reads.Plain) w = w
+laterWires (ReadMemory Reads.Fast) w = w
+laterWires (ReadMemory Reads.Quad) w = On.Four
+laterWires (ReadMemory Reads.Wrapped) w = w
+laterWires (WriteMemory Writes.Plain) w = w
+laterWires (WriteMemory Writes.Quad) w = On.Four
+laterWires ReadArea w = w
+laterWires WriteArea w = w
 
 -- what the 24 bits of an address name; P's 9F has an address that it ignores
 abbrev pub addressOf : Kind → Address
@@ -102,18 +102,18 @@ addressOf WriteArea = InArea
 
 -- 65 reads as many bytes as the register at its address has
 abbrev pub mappedBody : Mapped → Body
-mappedBody (At r) = FixedRead (sizeOf r)
+mappedBody (At r) = FixedRead (bytesOf r)
 mappedBody Nowhere = Nothing
 
 abbrev pub bodyOf : Part → Kind → ℕ → Body
 bodyOf p Unknown address = Nothing
 bodyOf p (Plain c) address = Nothing
-bodyOf p (ReadRegister r) address = FixedRead (sizeOf r)
+bodyOf p (ReadRegister r) address = FixedRead (bytesOf r)
 bodyOf p ReadAny address = mappedBody (mappedOf p address)
-bodyOf p ReadMode address = FixedRead (sizeOf ModeRegister)
-bodyOf p ReadIdentity address = FixedRead (sizeOf LongIdentity)
-bodyOf p (WriteRegister r) address = FixedWrite (sizeOf r)
-bodyOf p WriteMode address = FixedWrite (sizeOf ModeRegister)
+bodyOf p ReadMode address = FixedRead (bytesOf ModeRegister)
+bodyOf p ReadIdentity address = FixedRead (bytesOf LongIdentity)
+bodyOf p (WriteRegister r) address = FixedWrite (bytesOf r)
+bodyOf p WriteMode address = FixedWrite (bytesOf ModeRegister)
 bodyOf p (ReadMemory s) address = AnyRead
 bodyOf p (WriteMemory s) address = AnyWrite
 bodyOf p ReadArea address = AnyRead
@@ -122,4 +122,4 @@ bodyOf p WriteArea address = AnyWrite
 -- THE PLAN, for part, bus mode, configuration 2, kind, and the address that was read (0 while there is none)
 abbrev pub planOf : Part → Wires → ℕ → Kind → ℕ → Plan
 planOf p w cr2 k address =
-    record { command = w; rest = restWires k w; address = addressOf k; wait = waitOf k w cr2; body = bodyOf p k address }
+    record { command = w; later = laterWires k w; address = addressOf k; wait = waitOf k w cr2; body = bodyOf p k address }

@@ -7,15 +7,15 @@ use lib.Dec.{lit<}
 use lib.ListN.{getD}
 use Rattle.opcodes.specs.declared.Register.{Register}
 use Rattle.opcodes.specs.declared.Register.the-variants.{Status, AreaProtection, Configuration1, Configuration2, Configuration3, Configuration4, Configurations, Identity, Unique, Serial, ModeRegister, LongIdentity}
-use Rattle.commands.specs.Registers.{sizeOf, numberOf}
+use Rattle.commands.specs.Registers.{bytesOf, tablePlace}
 
 abbrev pub sizes : List ℕ
 sizes = 1 ∷ 1 ∷ 1 ∷ 1 ∷ 1 ∷ 1 ∷ 4 ∷ 4 ∷ 8 ∷ 8 ∷ 1 ∷ 8 ∷ []
 
 -- a register has a place in the table, and its size stands there
 pub record Sized (r : Register) : Type 0 where
-  pub inside : numberOf r < 12
-  pub size : getD sizes (numberOf r) 0 ≡ sizeOf r .0
+  pub inside : tablePlace r < 12
+  pub size : getD sizes (tablePlace r) 0 ≡ bytesOf r .0
 
 pub sized : (r : Register) → Sized r
 sized Status = record { inside = lit< tt; size = refl }

@@ -13,34 +13,34 @@ use Rattle.commands.specs.declared.registers.Mapped.{Mapped}
 use Rattle.commands.specs.declared.registers.Mapped.the-variants.{At, Nowhere}
 
 -- the fixed sizes
-abbrev pub sizeOf : Register → Bytes
-sizeOf Status = bytes 1
-sizeOf AreaProtection = bytes 1
-sizeOf Configuration1 = bytes 1
-sizeOf Configuration2 = bytes 1
-sizeOf Configuration3 = bytes 1
-sizeOf Configuration4 = bytes 1
-sizeOf Configurations = bytes 4
-sizeOf Identity = bytes 4
-sizeOf Unique = bytes 8
-sizeOf Serial = bytes 8
-sizeOf ModeRegister = bytes 1
-sizeOf LongIdentity = bytes 8
+abbrev pub bytesOf : Register → Bytes
+bytesOf Status = bytes 1
+bytesOf AreaProtection = bytes 1
+bytesOf Configuration1 = bytes 1
+bytesOf Configuration2 = bytes 1
+bytesOf Configuration3 = bytes 1
+bytesOf Configuration4 = bytes 1
+bytesOf Configurations = bytes 4
+bytesOf Identity = bytes 4
+bytesOf Unique = bytes 8
+bytesOf Serial = bytes 8
+bytesOf ModeRegister = bytes 1
+bytesOf LongIdentity = bytes 8
 
 -- the place of a register in the code's tables
-abbrev pub numberOf : Register → ℕ
-numberOf Status = 0
-numberOf AreaProtection = 1
-numberOf Configuration1 = 2
-numberOf Configuration2 = 3
-numberOf Configuration3 = 4
-numberOf Configuration4 = 5
-numberOf Configurations = 6
-numberOf Identity = 7
-numberOf Unique = 8
-numberOf Serial = 9
-numberOf ModeRegister = 10
-numberOf LongIdentity = 11
+abbrev pub tablePlace : Register → ℕ
+tablePlace Status = 0
+tablePlace AreaProtection = 1
+tablePlace Configuration1 = 2
+tablePlace Configuration2 = 3
+tablePlace Configuration3 = 4
+tablePlace Configuration4 = 5
+tablePlace Configurations = 6
+tablePlace Identity = 7
+tablePlace Unique = 8
+tablePlace Serial = 9
+tablePlace ModeRegister = 10
+tablePlace LongIdentity = 11
 
 -- The register map: an address that no row has is not in it, and all 24 bits count. Area protection and serial number have no address
 -- (DECISIONS.md, "The register map").

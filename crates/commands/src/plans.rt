@@ -1,6 +1,6 @@
 // The plan of a command: what its clocks are for.
 ghost use mathlib.Core.Path.{_≡_};
-ghost use Rattle.commands.specs.Plans.{columnOf, waitRow, waitOf, restWires, addressOf, mappedBody, bodyOf, planOf};
+ghost use Rattle.commands.specs.Plans.{columnOf, waitRow, waitOf, laterWires, addressOf, mappedBody, bodyOf, planOf};
 use crate::registers::Mapped;
 use crate::registers::register_at;
 use crate::registers::size_of;
@@ -35,7 +35,7 @@ pub enum Body {
 // The wires of the command byte and of all that follows it, the address, the wait, the data.
 pub struct Plan {
     pub command: Wires,
-    pub rest: Wires,
+    pub later: Wires,
     pub address: Address,
     pub wait: Clocks,
     pub body: Body,
@@ -80,8 +80,8 @@ fn column(w: Wires) -> usize
     }
 }
 
-// The clocks between address and data. The last row, which only the augmented read of part M has, is
-// configuration 2.
+// The clocks between address and data. Row 5, which only the augmented read of part M has, is not in the
+// table: its wait is configuration 2.
 pub fn wait_of(k: Kind, w: Wires, cr2: u8) -> Clocks
     ensures { λ r. ⌜ r ≡ waitOf k w cr2 ⌝ }
 {
@@ -93,8 +93,8 @@ pub fn wait_of(k: Kind, w: Wires, cr2: u8) -> Clocks
 }
 
 // The wires of all that follows the command byte.
-pub fn rest_wires(k: Kind, w: Wires) -> Wires
-    ensures { λ r. ⌜ r ≡ restWires k w ⌝ }
+pub fn later_wires(k: Kind, w: Wires) -> Wires
+    ensures { λ r. ⌜ r ≡ laterWires k w ⌝ }
 {
     match k {
         Kind::Unknown => w,
@@ -177,7 +177,7 @@ pub fn plan_of(part: Part, w: Wires, cr2: u8, k: Kind, address: u32) -> Plan
 {
     Plan {
         command: w,
-        rest: rest_wires(k, w),
+        later: later_wires(k, w),
         address: address_of(k),
         wait: wait_of(k, w, cr2),
         body: body_of(part, k, address),

@@ -1,6 +1,6 @@
 // Registers: how many bytes each has, and where 65h finds it.
 ghost use mathlib.Core.Path.{_≡_};
-ghost use Rattle.commands.specs.Registers.{numberOf, sizeOf, mappedOf};
+ghost use Rattle.commands.specs.Registers.{tablePlace, bytesOf, mappedOf};
 ghost use Rattle.parts.specs.declared.Part.the-variants.{M};
 use opcodes::Register;
 use parts::Part;
@@ -11,7 +11,7 @@ const SIZES: [usize; 12] = [1, 1, 1, 1, 1, 1, 4, 4, 8, 8, 1, 8];
 
 // The place of a register in the tables.
 fn number_of(r: Register) -> usize
-    ensures { λ r₁. ⌜ r₁ ≡ numberOf r ⌝ }
+    ensures { λ r₁. ⌜ r₁ ≡ tablePlace r ⌝ }
 {
     match r {
         Register::Status => 0,
@@ -31,7 +31,7 @@ fn number_of(r: Register) -> usize
 
 // The bytes of a register.
 pub fn size_of(r: Register) -> Bytes
-    ensures { λ s. ⌜ s ≡ sizeOf r ⌝ }
+    ensures { λ s. ⌜ s ≡ bytesOf r ⌝ }
 {
     Bytes(SIZES[number_of(r)])
 }

@@ -1,18 +1,16 @@
 -- Laws of the opcode decision.
 -- Assumes nothing.
-use mathlib.Core.Path.{_≡_, refl, sym, ap, _∙_}
+use mathlib.Core.Path.{_≡_, sym, ap}
 use Prim.Native.Nat.{ℕ}
-use mathlib.Core.Bool.{true, false}
+use mathlib.Core.Bool.{false}
 use mathlib.Core.List.{List, [], _∷_, _++_, reverse}
 use lib.Dec.{T}
-use Rattle.basis.specs.Rows.{look, keys, distinct, within, Away, Rest, look-away, away-within, away-of-rest}
+use Rattle.basis.specs.Rows.{keys, distinct, Away, Rest, look-away, away-within, away-of-rest}
 use Rattle.units.specs.declared.Wires.{Wires}
 use Rattle.parts.specs.declared.Part.{Part}
 use Rattle.parts.specs.declared.Part.the-variants.{M, P}
-use Rattle.opcodes.specs.declared.Kind.{Kind}
 use Rattle.opcodes.specs.declared.Kind.the-variants.{Unknown}
 use Rattle.opcodes.specs.declared.Modes.the-variants.{Never}
-use Rattle.opcodes.specs.declared.Row.{Row}
 use Rattle.opcodes.specs.Kinds.{rowsM, rowsP, rowsOf, noEntry, entryOf, inModes, kindOf, rowOf}
 
 -- no opcode stands twice in a part's rows, so the first row that has it is the only one

@@ -6,15 +6,15 @@ use Rattle.units.specs.declared.Bytes.{Bytes}
 use Rattle.units.specs.Units.{bytes}
 
 -- 16, 32, 64, 128, 256 bytes for codes 0 to 4 of CR3[2:0]: 16 doubled as often as the code says
-abbrev pub wrapOf : ℕ → Bytes
-wrapOf cr3 = bytes (16 * 2 ^ (cr3 % 8))
+abbrev pub wrapLength : ℕ → Bytes
+wrapLength cr3 = bytes (16 * 2 ^ (cr3 % 8))
 
 -- 16, 32, 64, 512 bytes for MR0[6:5]
 abbrev pub groups : List ℕ
 groups = 16 ∷ 32 ∷ 64 ∷ 512 ∷ []
 
-abbrev pub groupOf : ℕ → Bytes
-groupOf mr0 = bytes (getD groups (mr0 / 32 % 4) 0)
+abbrev pub groupLength : ℕ → Bytes
+groupLength mr0 = bytes (getD groups (mr0 / 32 % 4) 0)
 
 -- Of 64 equal parts of memory: nothing for code 0, then 1/64 for 1, doubled with each code, to all of memory for 7.
 abbrev pub shareAt : ℕ → ℕ

@@ -8,12 +8,17 @@ use Rattle.units.specs.Units.{bytes}
 use Rattle.parts.specs.declared.Part.{Part}
 use Rattle.parts.specs.declared.Part.the-variants.{M, P}
 
--- 1 is M, 2 is P; row 1 refuses any other number before it comes to more
+-- the numbers of the parts
+abbrev pub partNumber : Part → ℕ
+partNumber M = 1
+partNumber P = 2
+
+-- the part of a number; row 1 refuses a number that stands for none before it comes to more
 abbrev pub partOf : ℕ → Part
-partOf k = cond (eqb k 2) P M
+partOf k = cond (eqb k (partNumber P)) P M
 
 abbrev pub knownPart : ℕ → Bool
-knownPart k = eqb k 1 || eqb k 2
+knownPart k = eqb k (partNumber M) || eqb k (partNumber P)
 
 -- a memory has 2^n bytes, n from the least to the most
 abbrev pub leastOf : Part → ℕ
@@ -33,7 +38,7 @@ abbrev pub sectionOf : Part → Bytes
 sectionOf M = bytes 32
 sectionOf P = bytes 0
 
--- CR3's codes 0 to 4 name a group of part M, 5 to 7 are reserved; part P has no such register
+-- how many of CR3's codes name a group, counted from 0; those after them are reserved, and part P has no such register
 abbrev pub wrapCodes : Part → ℕ
 wrapCodes M = 5
 wrapCodes P = 0

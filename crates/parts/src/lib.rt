@@ -2,10 +2,11 @@
 // registers choose.
 ghost use mathlib.Core.Path.{_≡_};
 ghost use Rattle.parts.specs.Parts.{partOf, knownPart, leastOf, mostOf, areaOf, sectionOf, wrapCodes};
-ghost use Rattle.parts.specs.Lengths.{wrapOf, groupOf, shareOf};
+ghost use Rattle.parts.specs.Lengths.{wrapLength, groupLength, shareOf};
 use units::Bytes;
 
-// Part M, the serial MRAM.
+// Part M, the serial MRAM. Its memories of 2^17, 2^19, 2^20 and 2^21 bytes are sold; the smaller ones are
+// the bench's.
 pub struct Mram;
 
 impl Mram {
@@ -20,6 +21,10 @@ impl Mram {
     pub const SECTION: usize = 32;
 
     pub const WRAP_CODES: u8 = 5;
+
+    pub const FRESH_CR2: u8 = 0x08;
+
+    pub const FRESH_CR4: u8 = 0x05;
 }
 
 // Part P, the serial PSRAM. It has no augmented area.
@@ -37,6 +42,8 @@ impl Psram {
     pub const SECTION: usize = 0;
 
     pub const WRAP_CODES: u8 = 0;
+
+    pub const FRESH_MR0: u8 = 0x60;
 }
 
 pub enum Part {
@@ -127,14 +134,14 @@ const SHARES: [usize; 8] = [0, 1, 2, 4, 8, 16, 32, 64];
 
 // The group inside which memory reads of part M wrap, by configuration 3.
 pub fn wrap_length(cr3: u8) -> Bytes
-    ensures { λ r. ⌜ r ≡ wrapOf cr3 ⌝ }
+    ensures { λ r. ⌜ r ≡ wrapLength cr3 ⌝ }
 {
     Bytes(WRAPS[(cr3 % 8) as usize])
 }
 
 // The group inside which part P wraps, by the mode register.
 pub fn group_length(mr0: u8) -> Bytes
-    ensures { λ r. ⌜ r ≡ groupOf mr0 ⌝ }
+    ensures { λ r. ⌜ r ≡ groupLength mr0 ⌝ }
 {
     Bytes(GROUPS[(mr0 / 32 % 4) as usize])
 }

@@ -1,5 +1,5 @@
--- Which addresses are allowed, row 7 of document 01's "Answer numbers". "Commands of part M": address bits n and up must be 0, an area's address
--- is below its size, 65 goes by the register map. "Commands of part P": address bits n and up are ignored, the low four bits of B5 and B1 are 0.
+-- Which addresses are allowed, row 7 of document 01's "Answer numbers". The rules stand in "Commands of part M" (memory, area, the map of 65) and
+-- "Commands of part P": part M refuses an address that its memory has not, part P drops the bits that are too many.
 use Prim.Native.Nat.{ℕ, _%_, _^_}
 use mathlib.Core.Bool.{Bool, true, false}
 use lib.Dec.{eqb, ltb}
@@ -16,15 +16,15 @@ use Rattle.commands.specs.Registers.{mappedOf}
 use Rattle.record.specs.declared.Setting.{Setting}
 
 -- a memory has 2^n bytes
-abbrev pub sizeOf : ℕ → Bytes
-sizeOf n = bytes (2 ^ n)
+abbrev pub memorySize : ℕ → Bytes
+memorySize n = bytes (2 ^ n)
 
 abbrev pub isMapped : Mapped → Bool
 isMapped (At r) = true
 isMapped Nowhere = false
 
 abbrev pub memoryAllowed : Part → ℕ → ℕ → Bool
-memoryAllowed M n address = ltb address (sizeOf n .0)
+memoryAllowed M n address = ltb address (memorySize n .0)
 memoryAllowed P n address = true
 
 abbrev pub allowedOf : Setting → Address → ℕ → Bool

@@ -1,24 +1,23 @@
 -- Laws of places and protection.
 -- Assumes nothing.
-use mathlib.Core.Path.{_≡_, refl, ap, sym}
-use Prim.Native.Nat.{ℕ, zero, suc, _+_, _*_, _/_, _%_, _^_, _-_, _<_, _≤_}
-use native.Mathlib.Nat.{div-mul-le-self, mod-le, mod-lt, mod-eq-of-lt, mul-le-mul-left, le-trans, le-of-suc-le-suc, lt-of-lt-of-le, lt-of-le-of-lt, div-eq-of-lt, mul-pos}
+use mathlib.Core.Path.{_≡_}
+use Prim.Native.Nat.{ℕ, zero, suc, _/_, _%_, _^_, _<_, _≤_}
+use native.Mathlib.Nat.{div-mul-le-self, mod-eq-of-lt, mul-le-mul-left, le-trans, lt-of-lt-of-le, lt-of-le-of-lt, div-eq-of-lt, mul-pos}
 use native.Mathlib.Omega.{arith}
 use mathlib.Core.Bool.{Bool, true, false, cond}
-use mathlib.Core.List.{List, [], _∷_}
 use lib.Dec.{lit<, lit≤, eqb}
 use lib.ListN.{getD}
 use lib.Pow.{pow-pos, pow-mono}
 use Rattle.units.specs.declared.Bytes.{Bytes}
 use Rattle.parts.specs.declared.Part.{Part}
 use Rattle.parts.specs.declared.Part.the-variants.{M, P}
-use Rattle.parts.specs.Lengths.{groups, groupOf, wrapOf, shareAt, shareOf}
+use Rattle.parts.specs.Lengths.{groups, wrapLength, shareAt, shareOf}
 use Rattle.record.specs.declared.Setting.{Setting}
-use Rattle.places.specs.Addresses.{sizeOf}
+use Rattle.places.specs.Addresses.{memorySize}
 use Rattle.places.specs.Places.{groupInForce, wrapInForce, readSpanFor, writeSpanFor, readSpan, writeSpan}
 use Rattle.places.specs.Protection.{shutBytes, sectionShut}
 
--- a burst that can be placed: a store, a group, and no more bytes than the clocks of a transaction carry
+-- a burst that can be placed: a store and a group that are not empty, and a byte that the clocks of a transaction can reach
 pub record Burst (size span i : Bytes) : Type 0 where
   pub store : 0 < size .0
   pub group : 0 < span .0
@@ -39,7 +38,7 @@ share-at (suc k) h = pow-mono {i = k} {j = 6} (omega arith)
 pub share-le : (status : ℕ) → shareOf status ≤ 64
 share-le status = share-at (status / 4 % 8) (omega arith)
 
-pub shut-le : (n status : ℕ) → shutBytes n status .0 ≤ sizeOf n .0
+pub shut-le : (n status : ℕ) → shutBytes n status .0 ≤ memorySize n .0
 shut-le n status = le-trans (mul-le-mul-left (2 ^ n / 64) (share-le status)) (div-mul-le-self (2 ^ n) 64)
 
 -- ---- a section past the eighth has no bit
@@ -62,7 +61,7 @@ group-pos mr0 false = groups-pos (mr0 / 32 % 4) (omega arith)
 wrap-pos : (n cr3 : ℕ) → 0 < wrapInForce n cr3 .0
 wrap-pos n cr3 = by (eqb (cr3 / 16 % 2) 1)
   where
-    by : (b : Bool) → 0 < cond b (wrapOf cr3) (sizeOf n) .0
+    by : (b : Bool) → 0 < cond b (wrapLength cr3) (memorySize n) .0
     by true = mul-pos (lit< tt) (pow-pos (cr3 % 8))
     by false = pow-pos n
 

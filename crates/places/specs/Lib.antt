@@ -1,4 +1,5 @@
 pub mod Addresses
 pub mod Places
 pub mod Protection
+pub mod Examples
 pub mod Laws

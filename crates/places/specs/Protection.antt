@@ -9,18 +9,17 @@ use Rattle.parts.specs.declared.Part.{Part}
 use Rattle.parts.specs.declared.Part.the-variants.{M, P}
 use Rattle.parts.specs.Parts.{sectionOf}
 use Rattle.parts.specs.Lengths.{shareOf}
-use Rattle.record.specs.declared.Registers.{Registers}
 use Rattle.record.specs.declared.Setting.{Setting}
-use Rattle.places.specs.Addresses.{sizeOf}
+use Rattle.places.specs.Addresses.{memorySize}
 
 -- the protected share of a memory, in bytes
 abbrev pub shutBytes : ℕ → ℕ → Bytes
-shutBytes n status = bytes (sizeOf n .0 / 64 * shareOf status)
+shutBytes n status = bytes (memorySize n .0 / 64 * shareOf status)
 
--- bit 5 puts the share at the bottom of memory, where it is 1, or at the top
+-- bit 5 puts the share at the bottom of memory, where it is 1, or at the top; a place is one that the memory has
 unfoldable pub shutMemory : ℕ → ℕ → ℕ → Bool
 shutMemory n status place =
-    cond (eqb (status / 32 % 2) 1) (ltb place (shutBytes n status .0)) (leb (sizeOf n .0 - shutBytes n status .0) place)
+    cond (eqb (status / 32 % 2) 1) (ltb place (shutBytes n status .0)) (leb (memorySize n .0 - shutBytes n status .0) place)
 
 -- the bit of a section
 unfoldable pub sectionShut : ℕ → ℕ → Bool

@@ -1,11 +1,12 @@
 // Where a burst goes: which addresses are allowed, where each byte of a burst lies, and which bytes are
 // protected.
 //
-// No burst has more bytes than 65,535 clocks can carry, and no memory is larger than an address reaches:
-// the `requires` below say so, and the checks of sizes have seen to both before anything comes here.
+// A byte takes at least two clocks, so the 65,535 clocks of a transaction carry fewer bytes than that; and
+// no memory is larger than an address of 24 bits reaches. The `requires` below ask for both, and the checks
+// of sizes have seen to them before anything comes here.
 ghost use mathlib.Core.Path.{_≡_};
 ghost use Prim.Native.Nat.{_+_, _<_, _≤_, _^_};
-ghost use Rattle.places.specs.Addresses.{sizeOf, isMapped, memoryAllowed, allowedOf};
+ghost use Rattle.places.specs.Addresses.{memorySize, isMapped, memoryAllowed, allowedOf};
 ghost use Rattle.places.specs.Places.{groupInForce, wrapInForce, readSpan, writeSpan, placeIn, readPlace, writePlace, areaPlace};
 ghost use Rattle.places.specs.Laws.{Burst};
 ghost use Rattle.places.specs.Protection.{shutBytes, shutMemory, sectionShut, protectedOf, areaProtectedOf};
@@ -20,7 +21,7 @@ use units::Bytes;
 // The bytes of a memory.
 pub fn memory_size(n: u8) -> Bytes
     requires { ⌜ n ≤ 24 ⌝ }
-    ensures { λ r. ⌜ r ≡ sizeOf n ⌝ }
+    ensures { λ r. ⌜ r ≡ memorySize n ⌝ }
 {
     Bytes(1usize << n)
 }
@@ -141,7 +142,10 @@ pub fn area_place(part: Part, address: u32, i: Bytes) -> usize
     ensures { λ r. ⌜ r ≡ areaPlace part address i ⌝ }
 {
     match part {
-        Part::M => place_in(Bytes(Mram::AREA), Bytes(Mram::AREA), address, i),
+        Part::M => {
+            let size = part.area();
+            place_in(size, size, address, i)
+        }
         Part::P => 0,
     }
 }

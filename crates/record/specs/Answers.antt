@@ -3,17 +3,17 @@ use Prim.Native.Nat.{ℕ}
 use Rattle.record.specs.declared.Answer.{Answer}
 use Rattle.record.specs.declared.Answer.the-variants.{Done, Size, Sample, State, Short, Unknown, Asleep, Address, Latch, Protected, Reserved, Long, Unarmed}
 
-abbrev pub numberOf : Answer → ℕ
-numberOf Done = 0
-numberOf Size = 1
-numberOf Sample = 2
-numberOf State = 3
-numberOf Short = 4
-numberOf Unknown = 5
-numberOf Asleep = 6
-numberOf Address = 7
-numberOf Latch = 8
-numberOf Protected = 9
-numberOf Reserved = 10
-numberOf Long = 11
-numberOf Unarmed = 12
+abbrev pub answerNumber : Answer → ℕ
+answerNumber Done = 0
+answerNumber Size = 1
+answerNumber Sample = 2
+answerNumber State = 3
+answerNumber Short = 4
+answerNumber Unknown = 5
+answerNumber Asleep = 6
+answerNumber Address = 7
+answerNumber Latch = 8
+answerNumber Protected = 9
+answerNumber Reserved = 10
+answerNumber Long = 11
+answerNumber Unarmed = 12

@@ -1,7 +1,7 @@
 -- What changes a record. Document 01, "Commands of part M" (control, register writes, latch), "Commands of part P" (mode register, toggle) and
--- "Reset and power"; the left column of "Answer numbers".
+-- "Reset and power"; "Answer numbers", what each answer leaves.
 use Prim.Native.Nat.{ℕ}
-use mathlib.Core.Bool.{Bool, true, false, cond, not}
+use mathlib.Core.Bool.{Bool, true, false, not}
 use mathlib.Core.List.{List}
 use lib.ListN.{getD}
 use Rattle.parts.specs.declared.Part.{Part}
@@ -19,6 +19,7 @@ use Rattle.record.specs.declared.Registers.{Registers}
 use Rattle.record.specs.declared.Volatile.{Volatile}
 use Rattle.record.specs.declared.Identities.{Identities}
 use Rattle.record.specs.declared.Device.{Device}
+use Rattle.record.specs.Fresh.{freshModeRegister}
 use Rattle.record.specs.Latches.{afterBurst, afterRegister}
 use Rattle.record.specs.Shows.{withoutLatch}
 
@@ -58,15 +59,15 @@ modeRegisterTo v d =
     let r = d .registers in
     withRegisters (record { status = r .status; protection = r .protection; cr1 = r .cr1; cr2 = r .cr2; cr3 = r .cr3; cr4 = r .cr4; mr0 = v }) d
 
--- M: latch down, mode 1. P: mode 1, MR0 60h, toggle off. All else is kept.
+-- Both parts go back to one wire. Part M also drops its latch; part P puts its mode register back and turns its toggle off. All else is kept.
 abbrev pub resetFor : Part → Device → Device
 resetFor M d = latchTo false (modeTo 1 d)
-resetFor P d = toggleTo false (modeRegisterTo 0x60 (modeTo 1 d))
+resetFor P d = toggleTo false (modeRegisterTo freshModeRegister (modeTo 1 d))
 
 abbrev pub resetOf : Device → Device
 resetOf d = resetFor (partOf (d .part)) d
 
--- a power cycle does the same, wakes and disarms
+-- a power cycle is a reset after which the chip is awake and no longer armed
 abbrev pub poweredOf : Device → Device
 poweredOf d = armTo false (sleepTo false (resetOf d))
 
@@ -105,8 +106,8 @@ configurationsTo v d =
 abbrev pub serialTo : List ℕ → Device → Device
 serialTo v d = withIdentity (record { device = d .identity .device; unique = d .identity .unique; serial = v }) d
 
--- The bytes v, byte 0 first, put into a register: status drops its bit 1, the configurations go in together, the serial number is replaced whole.
--- No command writes the others.
+-- The eight places v, byte 0 first, put into a register: status drops its bit 1, the configurations go in together, the serial number is replaced
+-- whole. No command writes the others.
 abbrev pub writtenTo : Register → List ℕ → Device → Device
 writtenTo Status v d = statusTo (getD v 0 0) d
 writtenTo AreaProtection v d = protectionTo (getD v 0 0) d
@@ -122,6 +123,7 @@ writtenTo ModeRegister v d = modeRegisterTo (getD v 0 0) d
 writtenTo LongIdentity v d = d
 
 -- ---- what a command done does to the record, and what each answer leaves
+-- On part P both latch rules leave the latch down, where the state check wants it.
 abbrev pub burstDone : Device → Device
 burstDone d = latchTo (afterBurst (d .registers .cr4) (d .volatile .latch)) d
 

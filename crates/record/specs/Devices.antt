@@ -1,4 +1,4 @@
--- The device record and its setting. Document 01, "The two chips and what is modelled" and the paragraphs on status, configurations and fresh values.
+-- The device record and its setting. Document 01, "Commands of part M", first sentence (bus modes).
 use Prim.Native.Nat.{ℕ}
 use mathlib.Core.Bool.{cond}
 use lib.Dec.{eqb}
@@ -9,8 +9,8 @@ use Rattle.record.specs.declared.Device.{Device}
 use Rattle.record.specs.declared.Setting.{Setting}
 
 -- the wires of a bus mode, 1, 2 or 4; the state check refuses any other number before it comes to more
-abbrev pub wiresOf : ℕ → Wires
-wiresOf mode = cond (eqb mode 2) Two (cond (eqb mode 4) Four One)
+abbrev pub modeWires : ℕ → Wires
+modeWires mode = cond (eqb mode 2) Two (cond (eqb mode 4) Four One)
 
 -- All that the rules of clocks, addresses and places ask of a record. Latch and arming have no part in it, so whatever is said of a setting
 -- holds whatever they are.
@@ -18,7 +18,7 @@ abbrev pub settingOf : Device → Setting
 settingOf d =
     record {
       part = partOf (d .part);
-      wires = wiresOf (d .volatile .mode);
+      wires = modeWires (d .volatile .mode);
       n = d .n;
       asleep = d .volatile .asleep;
       toggle = d .volatile .toggle;

@@ -1,4 +1,4 @@
--- The write latch. Document 01, "Commands of part M", the paragraph "Latch". The write mode is CR4[1:0] as it is before the write. Part P has no
+-- The write latch. Document 01, "Commands of part M", the paragraph "Latch". The write mode that counts is the one before the write. Part P has no
 -- latch.
 use Prim.Native.Nat.{ℕ, _%_}
 use mathlib.Core.Bool.{Bool, true, false, cond, not}
@@ -8,14 +8,15 @@ use Rattle.parts.specs.declared.Part.the-variants.{M, P}
 use Rattle.opcodes.specs.declared.Kind.{Kind}
 use Rattle.opcodes.specs.declared.Kind.the-variants.{Unknown, Plain, ReadRegister, ReadAny, ReadMode, ReadIdentity, WriteRegister, WriteMode, ReadMemory, WriteMemory, ReadArea, WriteArea}
 
+-- CR4[1:0]
 abbrev pub writeMode : ℕ → ℕ
 writeMode cr4 = cr4 % 4
 
--- memory and augmented writes need it in modes 0 and 2, not in 1
+-- write mode 1 lets bursts into memory and area go without it
 abbrev pub burstNeeds : ℕ → Bool
 burstNeeds cr4 = not (eqb (writeMode cr4) 1)
 
--- register writes need it in every mode; nothing else needs it
+-- a register write asks for it whatever the write mode, a burst by the write mode, and no other command asks for it
 abbrev pub kindNeeds : ℕ → Kind → Bool
 kindNeeds cr4 Unknown = false
 kindNeeds cr4 (Plain c) = false
@@ -34,10 +35,10 @@ abbrev pub latchNeeded : Part → ℕ → Kind → Bool
 latchNeeded M cr4 k = kindNeeds cr4 k
 latchNeeded P cr4 k = false
 
--- a memory or augmented write answered 0 or 9 drops it in mode 0 and keeps it in 1 and 2
+-- after a burst into memory or area that was stored, or was protected whole: only write mode 0 takes it down
 abbrev pub afterBurst : ℕ → Bool → Bool
 afterBurst cr4 latch = cond (eqb (writeMode cr4) 0) false latch
 
--- a register write done drops it in modes 0 and 1 and keeps it in 2
+-- after a register write that was done: only write mode 2 leaves it as it is
 abbrev pub afterRegister : ℕ → Bool → Bool
 afterRegister cr4 latch = cond (eqb (writeMode cr4) 2) latch false

@@ -4,3 +4,4 @@ pub mod Fresh
 pub mod Latches
 pub mod Changes
 pub mod Shows
+pub mod Laws

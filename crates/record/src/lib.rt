@@ -4,8 +4,8 @@
 // its own. What changes a record is a method that takes it and returns the next.
 ghost use mathlib.Core.Path.{_≡_};
 ghost use lib.ListN.{getD};
-ghost use Rattle.record.specs.Answers.{numberOf};
-ghost use Rattle.record.specs.Devices.{wiresOf, settingOf};
+ghost use Rattle.record.specs.Answers.{answerNumber};
+ghost use Rattle.record.specs.Devices.{modeWires, settingOf};
 ghost use Rattle.record.specs.Fresh.{freshM, freshP};
 ghost use Rattle.record.specs.Changes.{latchTo, armTo, modeTo, sleepTo, toggleTo, resetOf, poweredOf, controlled, writtenTo, burstDone, registerDone, effectOf, settledOf};
 ghost use Rattle.record.specs.Latches.{kindNeeds, latchNeeded, afterBurst, afterRegister};
@@ -13,7 +13,9 @@ ghost use Rattle.record.specs.Shows.{withoutLatch, statusShown, shown, s
 use opcodes::Control;
 use opcodes::Kind;
 use opcodes::Register;
+use parts::Mram;
 use parts::Part;
+use parts::Psram;
 use units::Bytes;
 use units::Wires;
 
@@ -35,7 +37,7 @@ pub enum Answer {
 }
 
 pub fn answer_number(a: Answer) -> u8
-    ensures { λ r. ⌜ r ≡ numberOf a ⌝ }
+    ensures { λ r. ⌜ r ≡ answerNumber a ⌝ }
 {
     match a {
         Answer::Done => 0,
@@ -104,7 +106,7 @@ pub struct Setting {
 
 // The wires of a bus mode.
 pub fn mode_wires(mode: u8) -> Wires
-    ensures { λ r. ⌜ r ≡ wiresOf mode ⌝ }
+    ensures { λ r. ⌜ r ≡ modeWires mode ⌝ }
 {
     match mode {
         2 => Wires::Two,
@@ -119,15 +121,15 @@ impl Device {
         ensures { λ r. ⌜ r ≡ freshM n device unique ⌝ }
     {
         Device {
-            part: 1,
+            part: Mram::NUMBER,
             n,
             registers: Registers {
                 status: 0,
                 protection: 0,
                 cr1: 0,
-                cr2: 0x08,
+                cr2: Mram::FRESH_CR2,
                 cr3: 0,
-                cr4: 0x05,
+                cr4: Mram::FRESH_CR4,
                 mr0: 0,
             },
             volatile: Volatile {
@@ -150,7 +152,7 @@ impl Device {
         ensures { λ r. ⌜ r ≡ freshP n device ⌝ }
     {
         Device {
-            part: 2,
+            part: Psram::NUMBER,
             n,
             registers: Registers {
                 status: 0,
@@ -159,7 +161,7 @@ impl Device {
                 cr2: 0,
                 cr3: 0,
                 cr4: 0,
-                mr0: 0x60,
+                mr0: Psram::FRESH_MR0,
             },
             volatile: Volatile {
                 mode: 1,
@@ -240,7 +242,7 @@ impl Device {
                 self
             }
             Part::P => {
-                self.registers.mr0 = 0x60;
+                self.registers.mr0 = Psram::FRESH_MR0;
                 self.volatile.toggle = false;
                 self
             }
@@ -347,7 +349,7 @@ impl Device {
         byte_at(self.shown(r), i)
     }
 
-    // A memory or augmented write, answered 0 or 9.
+    // A burst into memory or area, stored or wholly protected.
     fn burst_done(self) -> Self
         ensures { λ r. ⌜ r ≡ burstDone self ⌝ }
     {
@@ -444,7 +446,7 @@ fn kind_needs(cr4: u8, k: Kind) -> bool
     }
 }
 
-// The latch after a memory or augmented write that was answered 0 or 9.
+// The latch after a burst into memory or area, stored or wholly protected.
 fn after_burst(cr4: u8, latch: bool) -> bool
     ensures { λ r. ⌜ r ≡ afterBurst cr4 latch ⌝ }
 {

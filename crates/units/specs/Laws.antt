@@ -1,7 +1,7 @@
 -- Laws of clocks and bytes, for any wires.
 -- Assumes nothing.
 use mathlib.Core.Path.{_≡_, refl, ap}
-use Prim.Native.Nat.{ℕ, _+_, _*_, _/_, _%_, _<_, _≤_}
+use Prim.Native.Nat.{ℕ, _+_, _*_, _<_, _≤_}
 use native.Mathlib.Nat.{mul-div-cancel, div-add-mod'}
 use native.Mathlib.Omega.{arith}
 use lib.Dec.{lit<}
@@ -26,6 +26,12 @@ pub perByte-le : (w : Wires) → perByte w ≤ 8
 perByte-le One = omega arith
 perByte-le Two = omega arith
 perByte-le Four = omega arith
+
+-- so few bytes take clocks that a machine's word holds
+pub clocks-few : (w : Wires) (k : ℕ) → k ≤ 65535 → k * perByte w ≤ 524280
+clocks-few One k h = omega arith
+clocks-few Two k h = omega arith
+clocks-few Four k h = omega arith
 
 -- the clocks of whole bytes carry just these bytes
 pub whole-of-clocks : (w : Wires) (b : Bytes) → wholeOf w (clocksOf w b) ≡ b

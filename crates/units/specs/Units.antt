@@ -1,5 +1,5 @@
--- Clocks and bytes. Document 01, "Samples": they are two quantities, and a count of one never stands where the other is due.
--- Both are types of their own here too; every way from one to the other names the wires.
+-- Clocks and bytes. Document 01, "Samples", last sentence: the two are never taken for one another. Each is a type of its own here too, and every
+-- way from one to the other names the wires.
 use Prim.Native.Nat.{ℕ, _*_, _/_, _%_}
 use Rattle.units.specs.declared.Clocks.{Clocks}
 use Rattle.units.specs.declared.Bytes.{Bytes}
@@ -18,11 +18,9 @@ wiresOf One = 1
 wiresOf Two = 2
 wiresOf Four = 4
 
--- the rate: so many clocks to a byte
+-- the rate: the eight bits of a byte, so many to a clock, take so many clocks
 abbrev pub perByte : Wires → ℕ
-perByte One = 8
-perByte Two = 4
-perByte Four = 2
+perByte w = 8 / wiresOf w
 
 -- bytes to clocks
 abbrev pub clocksOf : Wires → Bytes → Clocks

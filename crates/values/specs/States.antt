@@ -1,4 +1,5 @@
--- The state check, row 3 of document 01's "Answer numbers": registers or mode outside their ranges, or a field of the other part not 0.
+-- The state check, row 3 of document 01's "Answer numbers": whether each field of a record is in its range, and those that only the other part has are
+-- clear. Part and n are checked before it, by row 1.
 use Prim.Native.Nat.{ℕ, _/_, _%_}
 use mathlib.Core.Bool.{Bool, true, not, _&&_, _||_}
 use mathlib.Core.List.{List, [], _∷_}

@@ -1,5 +1,6 @@
 -- The values that a register may have. Document 01, "Commands of part M" (the paragraph on status and configurations) and "Commands of part P"
--- (MR0). Row 10 of "Answer numbers" refuses a write of any other value, and row 3 a record that holds one.
+-- (MR0). Row 10 of "Answer numbers" refuses a write of any other value, and row 3 a record that holds one. Status alone differs between the two: bit 1
+-- may be written, where it is dropped, but no record has it.
 use Prim.Native.Nat.{ℕ, _/_, _%_}
 use mathlib.Core.Bool.{Bool, false, not, _&&_}
 use mathlib.Core.List.{List}
@@ -22,11 +23,11 @@ cr1Allowed v = eqb v 0
 abbrev pub cr2Allowed : ℕ → Bool
 cr2Allowed v = ltb v 16
 
--- bits 7 to 5 are free, bit 4 turns wrapping on, bit 3 is 0, and the code in bits 2 to 0 names a group, wrapping on or off
+-- any bits 7 to 5, wrapping on or off in bit 4, a 0 in bit 3, and in bits 2 to 0 a code that names a group, also while wrapping is off
 unfoldable pub cr3Allowed : Part → ℕ → Bool
 cr3Allowed p v = eqb (v / 8 % 2) 0 && ltb (v % 8) (wrapCodes p)
 
--- bits 7 to 3 are 0, bit 2 is 1, and the write mode in bits 1 and 0 is not 3
+-- five zeros, a one, and a write mode of 0 to 2: the value is 4, 5 or 6
 unfoldable pub cr4Allowed : ℕ → Bool
 cr4Allowed v = eqb (v / 4) 1 && ltb (v % 4) 3
 
@@ -37,7 +38,7 @@ configurationsAllowed p cr1 cr2 cr3 cr4 = cr1Allowed cr1 && (cr2Allowed cr2 && (
 unfoldable pub modeRegisterAllowed : ℕ → Bool
 modeRegisterAllowed v = ltb v 128 && (eqb (v / 4 % 8) 0 && ltb (v % 4) 3)
 
--- row 10: the bytes v are not allowed for the register; of the configurations one wrong value is enough
+-- row 10: the bytes v are not allowed for the register; of the configurations one wrong value is enough. No command writes one of them alone.
 abbrev pub reservedOf : Part → Register → List ℕ → Bool
 reservedOf p Status v = not (statusAllowed (getD v 0 0))
 reservedOf p AreaProtection v = false

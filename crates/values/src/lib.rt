@@ -1,4 +1,4 @@
-// Which values a register may have, and whether a record is one that a chip can have.
+// Which values a register may have, and whether the fields of a record are in their ranges.
 //
 // The rule of a register's values is stated once: a write of another value is answered 10, a record that
 // holds one is answered 3.
@@ -212,7 +212,7 @@ fn valid_p(d: Device) -> bool
     identity_p(identity)
 }
 
-// The state check: whether the record is one that a chip of its part can have.
+// The state check: whether every field of the record is in the range that its part gives it.
 pub fn valid(d: Device) -> bool
     ensures { λ r. ⌜ r ≡ validOf d ⌝ }
 {

@@ -1,18 +1,17 @@
--- Numbers on wires. Document 01, "Samples": the most significant bits travel first, and on each clock as many bits as there are wires.
--- Two wires carry bits 7, 5, 3, 1 on wire 1 and 6, 4, 2, 0 on wire 0, so a sample's two low bits are a pair of neighbours; four carry the high
--- nibble first. The bits of a clock are therefore the low bits of its sample, read as a number.
+-- Numbers on wires. Document 01, "Samples", first paragraph. High bits go before low ones, and each clock carries as many as there are wires. The
+-- higher bit of a pair stands on the higher wire, and so do the bits of a nibble: the bits of a clock are the low bits of its sample, as a number.
 use Prim.Native.Nat.{ℕ, zero, suc, _+_, _*_, _/_, _%_, _^_, _-_}
 use mathlib.Core.List.{List, [], _∷_}
 use Rattle.units.specs.declared.Clocks.{Clocks}
 use Rattle.units.specs.declared.Wires.{Wires}
 use Rattle.units.specs.Units.{wiresOf, perByte}
 
--- the bits of one clock; wires that are not in use are ignored
+-- the bits of one clock; the sample's other wires say nothing
 abbrev pub bitsOf : Wires → ℕ → ℕ
 bitsOf w x = x % 2 ^ wiresOf w
 
--- The number gathered so far, with one more clock's bits below it. No number on the bus is longer than an address, 24 bits, and the register
--- that gathers it is no wider: older bits leave it at the top.
+-- The number gathered so far, with one more clock's bits below it. What is gathered is a byte or an address, and the register that gathers it is as
+-- wide as an address, 24 bits: older bits leave it at the top.
 unfoldable pub shiftOf : Wires → ℕ → ℕ → ℕ
 shiftOf w number x = (number * 2 ^ wiresOf w + bitsOf w x) % 2 ^ 24
 

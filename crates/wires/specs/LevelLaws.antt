@@ -1,7 +1,7 @@
 -- Laws of driven levels, for any wires.
 -- Assumes nothing.
 use mathlib.Core.Path.{_≡_, refl}
-use Prim.Native.Nat.{ℕ, _+_, _^_, _<_}
+use Prim.Native.Nat.{ℕ, _^_, _<_}
 use mathlib.Core.Bool.{true}
 use native.Mathlib.Omega.{arith}
 use borrow.Author.Tests.{eq-eqb}
@@ -16,7 +16,7 @@ seen-level One v h = omega arith
 seen-level Two v h = omega arith
 seen-level Four v h = omega arith
 
--- a byte that the device drives is one that it drives for some bits
+-- what it drives for some bits is a byte that it drives
 pub driven-level : (w : Wires) (v : ℕ) → v < 2 ^ wiresOf w → drivenOf w (levelOf w v) ≡ true
 driven-level w v h = rw (seen-level w v h) (eq-eqb (levelOf w v) (levelOf w v) refl)
 

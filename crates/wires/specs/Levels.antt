@@ -1,5 +1,5 @@
--- What the device drives. Document 01, "Samples": an output byte's low four bits are levels, its high four bits the wires that are driven. One
--- wire drives wire 1, so 20h or 22h; two drive 30h to 33h, four F0h to FFh. 00h is a clock in which nothing is driven.
+-- What the device drives. Document 01, "Samples", second paragraph. The high half of an output byte marks the driven wires and the low half has their
+-- levels. On a single wire the device answers on wire 1, which is bit 1; a clock in which it drives nothing is 00h.
 use Prim.Native.Nat.{ℕ, _+_, _*_, _/_, _%_}
 use mathlib.Core.Bool.{Bool}
 use lib.Dec.{eqb}

@@ -1,4 +1,5 @@
 pub mod Bits
 pub mod Levels
+pub mod Examples
 pub mod Laws
 pub mod LevelLaws

@@ -1,6 +1,4 @@
-// The leaf: what one clock carries, in and out, on one, two or four wires.
-//
-// A contract here says no more than `result ≡ definition`, and stays as it is when the inside changes.
+// What one clock carries, in and out, on one, two or four wires.
 ghost use mathlib.Core.Path.{_≡_};
 ghost use Prim.Native.Nat.{_^_};
 ghost use Rattle.units.specs.Units.{wiresOf};

@@ -5,7 +5,6 @@ use Prim.Native.Nat.{_+_, _%_}
 use native.Mathlib.Nat.{div-mul-le-self, mod-le}
 use native.Mathlib.Omega.{arith}
 use Rattle.places.specs.Places.{placeIn}
-use borrow.Author.Needs.{needs}
 use Rattle.places.proofs.place_in.Statement.{statement}
 use Rattle.places.proofs.place_in.Tie as tie
 

@@ -1,7 +1,6 @@
 -- `places::section_shut` meets its contract: a section past the eighth has no bit.
 -- Assumes nothing.
 use mathlib.Core.Path.{refl}
-use borrow.Author.Tests.{eq-eqb}
 use mathlib.Core.Path.{sym}
 use Rattle.places.specs.Protection.{sectionShut}
 use Rattle.places.specs.Laws.{section-past}

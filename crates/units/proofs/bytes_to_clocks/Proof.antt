@@ -1,5 +1,7 @@
--- `units::bytes_to_clocks` meets its contract: each arm multiplies by the rate of its wires.
+-- `units::bytes_to_clocks` meets its contract: so few bytes take clocks that fit.
 -- Assumes nothing.
+use native.Mathlib.Omega.{arith}
+use Rattle.units.specs.Laws.{clocks-few}
 use borrow.Author.Needs.{needs}
 use Rattle.units.proofs.bytes_to_clocks.Statement.{statement}
 use Rattle.units.proofs.bytes_to_clocks.Tie as tie
@@ -8,12 +10,9 @@ pub bytes-to-clocks-spec : {M : Type 1} → statement M
 bytes-to-clocks-spec =
     tie.close
     (tie.spec
-    (λ c. search needs)
-    (λ c. search needs)
-    (λ c. search needs)
-    (λ c. search needs)
-    (λ c. search needs)
-    (λ c. search needs)
-    (λ c. rw (c .before .enum-told .given .1))
-    (λ c. rw (c .before .enum-told2 .given .1))
-    (λ c. rw (c .before .enum-told3 .given .1)))
+    -- per-byte-requires
+    (λ c κs. search needs)
+    -- mul-t4
+    (λ c. rw (c .before .per-byte .ensures) (omega (arith, clocks-few (c .before .before .args .w) (c .before .before .args .b .0) (c .before .before .pre))))
+    -- returns
+    (λ c. rw (c .before .per-byte .ensures)))

@@ -1,5 +1,6 @@
--- `units::unfinished` meets its contract: each arm goes by the rate of its wires.
+-- `units::unfinished` meets its contract: the rate is not 0.
 -- Assumes nothing.
+use Rattle.units.specs.Laws.{perByte-pos}
 use borrow.Author.Needs.{needs}
 use Rattle.units.proofs.unfinished.Statement.{statement}
 use Rattle.units.proofs.unfinished.Tie as tie
@@ -8,9 +9,9 @@ pub unfinished-spec : {M : Type 1} → statement M
 unfinished-spec =
     tie.close
     (tie.spec
-    (λ c. search needs)
-    (λ c. search needs)
-    (λ c. search needs)
-    (λ c. rw (c .before .enum-told .given .1))
-    (λ c. rw (c .before .enum-told2 .given .1))
-    (λ c. rw (c .before .enum-told3 .given .1)))
+    -- per-byte-requires
+    (λ c κs. search needs)
+    -- rem-t4
+    (λ c. rw (c .before .per-byte .ensures) (perByte-pos (c .before .before .args .w)))
+    -- returns
+    (λ c. rw (c .before .per-byte .ensures)))

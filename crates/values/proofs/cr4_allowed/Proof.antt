@@ -1,7 +1,7 @@
 -- `values::cr4_allowed` meets its contract: the high bits decide, and then the write mode.
 -- Assumes nothing.
 use borrow.Author.Tests.{ne-eqb}
-use Prim.Native.Nat.{_/_, _%_}
+use Prim.Native.Nat.{_/_}
 use Rattle.values.specs.Values.{cr4Allowed}
 use Rattle.values.proofs.cr4_allowed.Statement.{statement}
 use Rattle.values.proofs.cr4_allowed.Tie as tie

@@ -1,11 +1,6 @@
 -- `values::mode_allowed` meets its contract: 1 and 4 are modes of both parts, 2 of part M, and no other number is a mode.
 -- Assumes nothing.
-use borrow.Author.Tests.{ne-eqb}
-use Rattle.parts.specs.declared.Part.{Part}
-use Rattle.parts.specs.declared.Part.the-variants.{M, P}
-use mathlib.Core.Path.{_≡_, refl}
-use mathlib.Core.Bool.{true, false}
-use Prim.Native.Nat.{ℕ}
+use Rattle.parts.specs.declared.Part.the-variants.{M}
 use Rattle.values.specs.States.{modeAllowed}
 use Rattle.values.specs.StateLaws.{mode-one, mode-four, mode-other}
 use borrow.Author.Needs.{needs}

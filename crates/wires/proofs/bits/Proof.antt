@@ -10,6 +10,9 @@ pub bits-spec : {M : Type 1} → statement M
 bits-spec =
     tie.close
     (tie.spec
+    -- values-requires
     (λ c κs. search needs)
+    -- rem-result
     (λ c. rw (c .values .ensures) (pow-pos (wiresOf (c .before .args .w))))
+    -- returns
     (λ c. rw (c .values .ensures)))

@@ -11,20 +11,37 @@ unfolding groupOf
 group-spec =
     tie.close
     (tie.spec
+    -- enum-told
     (λ c. search needs)
+    -- sub-result
     (λ c. search needs)
+    -- cast-result
     (λ c. search needs)
+    -- shr-result
     (λ c. search needs)
+    -- enum-told-2
     (λ c. search needs)
+    -- sub-result-2
     (λ c. search needs)
+    -- mul-result
     (λ c. search needs)
+    -- cast-result-2
     (λ c. search needs)
+    -- shr-result-2
     (λ c. search needs)
+    -- enum-told-3
     (λ c. search needs)
+    -- sub-result-3
     (λ c. search needs)
+    -- mul-result-2
     (λ c. search needs)
+    -- cast-result-3
     (λ c. search needs)
+    -- shr-result-3
     (λ c. search needs)
+    -- returns
     (λ c. rw (c .before .enum-told .given .1, one-mul))
+    -- returns-2
     (λ c. rw (c .before .enum-told2 .given .1))
+    -- returns-3
     (λ c. rw (c .before .enum-told3 .given .1)))

@@ -8,6 +8,9 @@ pub is-driven-spec : {M : Type 1} → statement M
 is-driven-spec =
     tie.close
     (tie.spec
+    -- seen-requires
     (λ c κs. search needs)
+    -- level-requires
     (λ c κs. search needs)
+    -- returns
     (λ c. rw (c .level .ensures, c .before .seen .ensures)))

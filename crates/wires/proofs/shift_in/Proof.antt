@@ -12,11 +12,19 @@ unfolding shiftOf
 shift-in-spec =
     tie.close
     (tie.spec
+    -- values-requires
     (λ c κs. search needs)
+    -- cast-v
     (λ c. search needs)
+    -- bits-requires
     (λ c κs. search needs)
+    -- cast-b
     (λ c. search needs)
+    -- mul-result
     (λ c. omega (arith, shift-fits (c .before .before .fits .number .fits) (c .before .values .ok)))
+    -- add-result
     (λ c. omega (arith, shift-fits (c .before .before .fits .number .fits) (c .before .values .ok)))
+    -- cast-result
     (λ c. search needs)
+    -- returns
     (λ c. rw (c .before .values .ensures, c .bits .ensures)))

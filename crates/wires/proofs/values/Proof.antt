@@ -8,9 +8,15 @@ pub values-spec : {M : Type 1} → statement M
 values-spec =
     tie.close
     (tie.spec
+    -- enum-told
     (λ c. search needs)
+    -- enum-told-2
     (λ c. search needs)
+    -- enum-told-3
     (λ c. search needs)
+    -- returns
     (λ c. rw (c .enum-told .given .1))
+    -- returns-2
     (λ c. rw (c .enum-told2 .given .1))
+    -- returns-3
     (λ c. rw (c .enum-told3 .given .1)))

@@ -8,7 +8,7 @@ pub plan-of-spec : {M : Type 1} → statement M
 plan-of-spec =
     tie.close
     (tie.spec
-    -- rest-wires-requires
+    -- later-wires-requires
     (λ c κs. search needs)
     -- address-of-requires
     (λ c κs. search needs)
@@ -17,4 +17,4 @@ plan-of-spec =
     -- body-of-requires
     (λ c κs. search needs)
     -- returns
-    (λ c. rw (c .before .before .before .rest-wires .ensures, c .before .before .address-of .ensures, c .before .wait-of .ensures, c .body-of .ensures)))
+    (λ c. rw (c .before .before .before .later-wires .ensures, c .before .before .address-of .ensures, c .before .wait-of .ensures, c .body-of .ensures)))
