@@ -1,0 +1,94 @@
+//! The command line; the README lists what it can do.
+
+use std::io::{self, BufWriter, Read, Write};
+use std::process::ExitCode;
+
+use second::{compact, coverage, generate, probe, spoil, tape};
+
+const USAGE: &str = "usage:
+  second tape [FILE]
+  second make tape SEED RECORDS
+  second make bundle SEED TAPES RECORDS
+  second make probes SEED COUNT
+  second compact [BUNDLE]
+  second probe [FILE]
+  second coverage SEED TAPES RECORDS
+  second probe-coverage SEED COUNT";
+
+/// The named file, or standard input where none is named.
+fn input(files: &[&str]) -> Result<Vec<u8>, String> {
+    let mut bytes = Vec::new();
+    match files {
+        [] => {
+            io::stdin()
+                .lock()
+                .read_to_end(&mut bytes)
+                .map_err(|error| format!("standard input: {error}"))?;
+        }
+        [name] => bytes = std::fs::read(name).map_err(|error| format!("{name}: {error}"))?,
+        _ => return Err(String::from(USAGE)),
+    }
+    Ok(bytes)
+}
+
+fn number<T: std::str::FromStr>(word: &str) -> Result<T, String> {
+    word.parse()
+        .map_err(|_| format!("not a number in range: {word}"))
+}
+
+fn run(words: &[&str], out: &mut dyn Write) -> Result<(), String> {
+    let written = match words {
+        ["tape", files @ ..] => {
+            let bytes = input(files)?;
+            out.write_all(tape::bench(&bytes).as_bytes())
+        }
+        ["make", "tape", seed, records] => {
+            out.write_all(&generate::tape(number(seed)?, number(records)?))
+        }
+        ["make", "bundle", seed, tapes, records] => out.write_all(&generate::bundle(
+            number(seed)?,
+            number(tapes)?,
+            number(records)?,
+        )),
+        ["make", "probes", seed, count] => {
+            out.write_all(&spoil::probes(number(seed)?, number(count)?))
+        }
+        ["compact", files @ ..] => {
+            let bytes = input(files)?;
+            compact::compact(&bytes, &mut |line| out.write_all(line.as_bytes()))
+        }
+        ["probe", files @ ..] => {
+            let bytes = input(files)?;
+            probe::probe(&bytes, &mut |line| out.write_all(line.as_bytes()))
+        }
+        ["coverage", seed, tapes, records] => {
+            let (text, _) = coverage::of_bundle(number(seed)?, number(tapes)?, number(records)?);
+            out.write_all(text.as_bytes())
+        }
+        ["probe-coverage", seed, count] => {
+            let (text, _) = coverage::of_probes(number(seed)?, number(count)?);
+            out.write_all(text.as_bytes())
+        }
+        _ => return Err(String::from(USAGE)),
+    };
+    written
+        .and_then(|()| out.flush())
+        .map_err(|error| format!("output: {error}"))
+}
+
+fn main() -> ExitCode {
+    // Arguments that are not text are still shown in the message, not a panic.
+    let words: Vec<String> = std::env::args_os()
+        .skip(1)
+        .map(|word| word.to_string_lossy().into_owned())
+        .collect();
+    let words: Vec<&str> = words.iter().map(String::as_str).collect();
+    let mut out = BufWriter::new(io::stdout().lock());
+    match run(&words, &mut out) {
+        Ok(()) => ExitCode::SUCCESS,
+        Err(message) => {
+            eprintln!("{message}");
+            ExitCode::from(1)
+        }
+    }
+}

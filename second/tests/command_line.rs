@@ -1,0 +1,82 @@
+//! The binary: standard input or a file, standard output, exit status.
+
+use std::io::Write;
+use std::process::{Command, Output, Stdio};
+
+fn second(words: &[&str], input: &[u8]) -> Output {
+    let mut child = Command::new(env!("CARGO_BIN_EXE_second"))
+        .args(words)
+        .stdin(Stdio::piped())
+        .stdout(Stdio::piped())
+        .stderr(Stdio::piped())
+        .spawn()
+        .expect("the binary starts");
+    // A command that does not read its input may be gone already.
+    let _ = child.stdin.take().expect("an input").write_all(input);
+    child.wait_with_output().expect("the binary ends")
+}
+
+#[test]
+fn tape_from_input_and_from_a_file() {
+    let tape = [
+        2, 0, 3, 0, 1, 10, 8, 0, 1, 0, 0, 0, 0, 0, 0, 1, 1, 0, 0, 0, 2, 0,
+    ];
+    let expected = "record answer command address wait data rest\n\
+                    1 0 0 0 0 0 0\n2 0 8 0 0 0 0\n3 0 0 0 0 0 0\nend 3\n";
+    let out = second(&["tape"], &tape);
+    assert!(out.status.success());
+    assert_eq!(String::from_utf8_lossy(&out.stdout), expected);
+    let path = std::env::temp_dir().join(format!("second-tape-{}", std::process::id()));
+    std::fs::write(&path, tape).expect("a temporary file");
+    let out = second(&["tape", path.to_str().expect("a plain name")], &[]);
+    let _ = std::fs::remove_file(&path);
+    assert!(out.status.success());
+    assert_eq!(String::from_utf8_lossy(&out.stdout), expected);
+}
+
+#[test]
+fn made_input_goes_back_in() {
+    let tape = second(&["make", "tape", "7", "30"], &[]).stdout;
+    assert_eq!(tape, second::generate::tape(7, 30));
+    let bundle = second(&["make", "bundle", "7", "3", "20"], &[]).stdout;
+    assert_eq!(bundle, second::generate::bundle(7, 3, 20));
+    let text = second(&["compact"], &bundle).stdout;
+    assert_eq!(text, second::compact::compact_text(&bundle).into_bytes());
+    let probes = second(&["make", "probes", "7", "40"], &[]).stdout;
+    assert_eq!(probes, second::spoil::probes(7, 40));
+    let text = second(&["probe"], &probes).stdout;
+    assert_eq!(text, second::probe::probe_text(&probes).into_bytes());
+    assert_eq!(String::from_utf8_lossy(&text).lines().count(), 40);
+}
+
+#[test]
+fn coverage_reports() {
+    let out = second(&["coverage", "1", "2", "10"], &[]);
+    assert!(out.status.success());
+    assert!(out.stdout.ends_with(b"coverage incomplete\n"));
+    let out = second(&["probe-coverage", "1", "10"], &[]);
+    assert!(out.status.success());
+    assert!(out.stdout.ends_with(b"coverage incomplete\n"));
+}
+
+#[test]
+fn errors() {
+    for words in [
+        &[][..],
+        &["nonsense"],
+        &["make"],
+        &["make", "tape", "1"],
+        &["make", "tape", "one", "2"],
+        &["make", "probes", "1", "-1"],
+        &["tape", "no-such-file-here"],
+        &["tape", "a", "b"],
+        &["compact", "no-such-file-here"],
+        &["probe", "no-such-file-here"],
+        &["coverage", "1", "2"],
+    ] {
+        let out = second(words, &[]);
+        assert_eq!(out.status.code(), Some(1), "{words:?}");
+        assert!(out.stdout.is_empty());
+        assert!(!out.stderr.is_empty());
+    }
+}

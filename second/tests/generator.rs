@@ -1,0 +1,182 @@
+//! The generator: same seed, same bytes; and it reaches what it should.
+
+use second::compact::{digest, take_tape};
+use second::coverage::{of_bundle, of_probes};
+use second::generate::{bundle, tape};
+use second::spoil::{probe_list, probes};
+use second::tape::{run, Ending, Entry};
+use second::wires::collect;
+
+fn tapes_of(bundle: &[u8]) -> Vec<&[u8]> {
+    let mut left = bundle;
+    let mut tapes = Vec::new();
+    while !left.is_empty() {
+        tapes.push(take_tape(&mut left).expect("a whole bundle"));
+    }
+    tapes
+}
+
+#[test]
+fn same_seed_same_bytes() {
+    assert_eq!(tape(5, 80), tape(5, 80));
+    assert_eq!(bundle(5, 6, 30), bundle(5, 6, 30));
+    assert_eq!(probes(5, 60), probes(5, 60));
+    assert_ne!(tape(5, 80), tape(6, 80));
+    assert_ne!(bundle(5, 6, 30), bundle(6, 6, 30));
+    assert_ne!(probes(5, 60), probes(6, 60));
+}
+
+/// Fixed digests show that no machine makes other bytes.
+#[test]
+fn same_bytes_on_every_machine() {
+    assert_eq!(format!("{:08X}", digest(&tape(1, 100))), TAPE);
+    assert_eq!(format!("{:08X}", digest(&bundle(1, 20, 40))), BUNDLE);
+    assert_eq!(format!("{:08X}", digest(&probes(1, 200))), PROBES);
+}
+const TAPE: &str = "936C954E";
+const BUNDLE: &str = "D59F6007";
+const PROBES: &str = "ACE3D7C2";
+
+#[test]
+fn a_tape_has_about_as_many_records_as_asked() {
+    assert!(tape(1, 0).is_empty());
+    for seed in 0..200 {
+        let made = tape(seed, 50);
+        assert!(made.len() <= 65_536);
+        let mut records = 0;
+        let ending = run(&made, &mut |_| records += 1);
+        match ending {
+            Ending::End(told) => assert!(told == records && (50..=62).contains(&records)),
+            Ending::Bad(_) => assert!(records <= 62),
+        }
+    }
+    // However many are asked for, a tape stays a tape.
+    for seed in 0..4 {
+        let made = tape(seed, 1_000_000);
+        assert!((61_000..=65_536).contains(&made.len()));
+    }
+}
+
+#[test]
+fn coverage_of_the_default_bundle() {
+    let (text, complete) = of_bundle(1, 60, 60);
+    assert!(complete, "{text}");
+    assert!(text.ends_with("coverage complete\n"));
+    let (text, complete) = of_bundle(1, 1, 10);
+    assert!(!complete);
+    assert!(text.ends_with("coverage incomplete\n"));
+}
+
+#[test]
+fn coverage_of_the_default_probes() {
+    let (text, complete) = of_probes(1, 4000);
+    assert!(complete, "{text}");
+    assert!(text.ends_with("coverage complete\n"));
+    let (text, complete) = of_probes(1, 10);
+    assert!(!complete);
+    assert!(text.ends_with("coverage incomplete\n"));
+}
+
+/// The states and turns that a comparison should meet.
+#[test]
+fn a_bundle_reaches_deep_states() {
+    let bytes = bundle(1, 300, 50);
+    let (mut clocks, mut transactions) = (0usize, 0usize);
+    let mut longest = 0;
+    let mut seen_n = [[false; 16]; 3];
+    let mut protected_codes = [[0u32; 8]; 2];
+    let mut write_modes = [0u32; 3];
+    let mut waits = [0u32; 16];
+    let mut wraps = [0u32; 5];
+    let mut groups = [0u32; 4];
+    let (mut toggled, mut resets, mut slept, mut unarmed, mut second_chip) = (0, 0, 0, 0, 0);
+    let mut bad = 0;
+    for tape in tapes_of(&bytes) {
+        let ending = run(tape, &mut |step| {
+            let record = &step.chip.record;
+            seen_n[usize::from(record.part)][usize::from(record.n)] = true;
+            match (step.entry, &step.before) {
+                (Entry::Fresh { .. }, Some(_)) => second_chip += 1,
+                (Entry::Transaction(samples), Some(before)) => {
+                    transactions += 1;
+                    clocks += samples.len();
+                    longest = longest.max(samples.len());
+                    if before.part == 1 {
+                        // Memory writes that got as far as the protection.
+                        let opcode = collect(samples, before.mode).first().copied();
+                        if opcode == Some(0x02) && matches!(step.answer, 0 | 9) {
+                            let bottom = usize::from(before.status >> 5 & 1);
+                            protected_codes[bottom][usize::from(before.status >> 2 & 7)] += 1;
+                        }
+                        write_modes[usize::from(before.configurations[3] & 3)] += 1;
+                        if step.answer == 0 && step.counts[1] == 24 && before.mode == 1 {
+                            waits[step.counts[2] as usize] += 1;
+                        }
+                        if before.configurations[2] & 0x10 != 0 && step.counts[3] > 0 {
+                            wraps[usize::from(before.configurations[2] & 7)] += 1;
+                        }
+                        slept += u32::from(step.answer == 6);
+                    } else {
+                        groups[usize::from(before.mr0 >> 5)] += u32::from(step.counts[3] > 16);
+                        toggled += u32::from(before.toggle && step.counts[3] > 0);
+                    }
+                    let reset = before.armed && step.answer == 0 && !record.armed;
+                    resets += u32::from(reset && before.mode != record.mode);
+                    unarmed += u32::from(step.answer == 12);
+                }
+                _ => {}
+            }
+        });
+        bad += u32::from(matches!(ending, Ending::Bad(_)));
+    }
+    assert!(clocks / transactions < 60, "{clocks} in {transactions}");
+    assert_eq!(longest, 4096);
+    for part in [1, 2] {
+        assert!(seen_n[part][10..=15].iter().all(|&seen| seen));
+    }
+    let least = protected_codes.iter().flatten().min();
+    assert!(least > Some(&10), "{protected_codes:?}");
+    assert!(write_modes.iter().all(|&count| count > 200));
+    assert!(waits.iter().all(|&count| count > 0), "{waits:?}");
+    assert!(wraps.iter().all(|&count| count > 20), "{wraps:?}");
+    assert!(groups.iter().all(|&count| count > 20), "{groups:?}");
+    for count in [toggled, resets, slept, unarmed, second_chip, bad] {
+        assert!(count > 10);
+    }
+    assert!(bad < 150);
+}
+
+#[test]
+fn rare_tapes_come_in_a_long_bundle() {
+    let bytes = bundle(3, 1500, 1);
+    let tapes = tapes_of(&bytes);
+    assert_eq!(tapes.len(), 1500);
+    let count =
+        |wanted: &dyn Fn(usize) -> bool| tapes.iter().filter(|tape| wanted(tape.len())).count();
+    assert!(count(&|length| length == 0) > 0);
+    assert!(count(&|length| length == 65_536) > 0);
+    assert!(count(&|length| length > 65_536) > 0);
+    for tape in tapes.iter().filter(|tape| tape.len() == 65_536) {
+        assert!(matches!(run(tape, &mut |_| {}), Ending::End(_)));
+    }
+}
+
+#[test]
+fn probes_keep_to_their_limits() {
+    let list = probe_list(1, 3000);
+    let clocks = |number: usize| list.iter().filter(|p| p.samples.len() == number).count();
+    assert!(clocks(65_535) > 0 && clocks(65_536) > 0);
+    for probe in &list {
+        assert!(probe.memory_bytes <= 1 << 21);
+        assert!(probe.area_bytes <= 512);
+        assert!(probe.output_bytes <= probe.samples.len() + 7);
+    }
+    let short = |p: &&second::probe::Probe| p.output_bytes + 1 == p.samples.len();
+    assert!(list.iter().filter(short).count() > 5);
+    for n in [9, 10, 21, 22] {
+        assert!(list.iter().any(|p| p.record.n == n));
+    }
+    for part in 0..4 {
+        assert!(list.iter().any(|p| p.record.part == part));
+    }
+}
