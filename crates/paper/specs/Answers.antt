@@ -1,0 +1,137 @@
+-- The answer: document 01's table "Answer numbers" from row 4 on, one test a row, in its order. The first row that holds gives the answer, and where none
+-- does it is 0.
+use Prim.Native.Nat.{ℕ}
+use mathlib.Core.Bool.{Bool, true, false, cond, not, _&&_}
+use mathlib.Core.List.{List, [], _∷_}
+use lib.Dec.{ltb}
+use Rattle.units.specs.declared.Clocks.{Clocks}
+use Rattle.units.specs.declared.Wires.{Wires}
+use Rattle.units.specs.Units.{bytes, clocks, clocksOf}
+use Rattle.opcodes.specs.declared.Control.{Control}
+use Rattle.opcodes.specs.declared.Control.the-variants as Controls
+use Rattle.opcodes.specs.declared.Register.the-variants.{ModeRegister}
+use Rattle.opcodes.specs.declared.Kind.{Kind}
+use Rattle.opcodes.specs.declared.Kind.the-variants as Kinds
+use Rattle.commands.specs.declared.plans.Body.{Body}
+use Rattle.commands.specs.declared.plans.Body.the-variants.{Nothing, FixedRead, AnyRead, FixedWrite, AnyWrite}
+use Rattle.counts.specs.declared.Counts.{Counts}
+use Rattle.parts.specs.declared.Part.{Part}
+use Rattle.record.specs.declared.Answer.{Answer}
+use Rattle.record.specs.declared.Answer.the-variants.{Done, Short, Unknown, Asleep, Address, Latch, Protected, Reserved, Long, Unarmed}
+use Rattle.record.specs.declared.Device.{Device}
+use Rattle.record.specs.declared.Setting.{Setting}
+use Rattle.record.specs.Devices.{settingOf}
+use Rattle.record.specs.Latches.{latchNeeded}
+use Rattle.values.specs.Values.{reservedOf}
+use Rattle.paper.specs.InForce.{unknown, asleepFor, refusedAt, commandClocks, addressClocks, bodyFor, wiresFor}
+use Rattle.paper.specs.Storing.{Taken}
+
+-- what was read, as the checks see it
+pub record Facts : Type 0 where
+  pub kind : Kind
+  pub address : ℕ
+  pub counts : Counts
+  pub taken : Taken
+
+-- so many clocks are fewer than those
+abbrev fewer : Clocks → Clocks → Bool
+fewer c d = ltb (c .0) (d .0)
+
+-- 4: a write without a whole byte, or a fixed one that is not full; a read may end anywhere
+abbrev pub shortData : Body → Wires → Clocks → Bool
+shortData Nothing w t = false
+shortData (FixedRead b) w t = false
+shortData AnyRead w t = false
+shortData (FixedWrite b) w t = fewer t (clocksOf w b)
+shortData AnyWrite w t = fewer t (clocksOf w (bytes 1))
+
+-- 11: a clock too many for a command without data or a fixed write
+abbrev pub longRest : Body → Clocks → Bool
+longRest Nothing t = fewer (clocks 0) t
+longRest (FixedRead b) t = false
+longRest AnyRead t = false
+longRest (FixedWrite b) t = fewer (clocks 0) t
+longRest AnyWrite t = false
+
+-- 12: a reset, and 66 was not just before
+abbrev resets : Control → Bool
+resets Controls.NoOperation = false
+resets Controls.WriteEnable = false
+resets Controls.WriteDisable = false
+resets Controls.ToOne = false
+resets Controls.ToTwo = false
+resets Controls.ToFour = false
+resets Controls.Sleep = false
+resets Controls.Wake = false
+resets Controls.ResetEnable = false
+resets Controls.Reset = true
+resets Controls.Toggle = false
+
+abbrev pub unarmed : Device → Kind → Bool
+unarmed d Kinds.Unknown = false
+unarmed d (Kinds.Plain c) = resets c && not (d .volatile .armed)
+unarmed d (Kinds.ReadRegister r) = false
+unarmed d Kinds.ReadAny = false
+unarmed d Kinds.ReadMode = false
+unarmed d Kinds.ReadIdentity = false
+unarmed d (Kinds.WriteRegister r) = false
+unarmed d Kinds.WriteMode = false
+unarmed d (Kinds.ReadMemory s) = false
+unarmed d (Kinds.WriteMemory s) = false
+unarmed d Kinds.ReadArea = false
+unarmed d Kinds.WriteArea = false
+
+-- 8: the latch is needed and down
+unfoldable pub unlatched : Device → Kind → Bool
+unlatched d k = latchNeeded (settingOf d .part) (d .registers .cr4) k && not (d .volatile .latch)
+
+-- 10: the value of a register write
+abbrev pub reservedFor : Part → Kind → List ℕ → Bool
+reservedFor p Kinds.Unknown v = false
+reservedFor p (Kinds.Plain c) v = false
+reservedFor p (Kinds.ReadRegister r) v = false
+reservedFor p Kinds.ReadAny v = false
+reservedFor p Kinds.ReadMode v = false
+reservedFor p Kinds.ReadIdentity v = false
+reservedFor p (Kinds.WriteRegister r) v = reservedOf p r v
+reservedFor p Kinds.WriteMode v = reservedOf p ModeRegister v
+reservedFor p (Kinds.ReadMemory s) v = false
+reservedFor p (Kinds.WriteMemory s) v = false
+reservedFor p Kinds.ReadArea v = false
+reservedFor p Kinds.WriteArea v = false
+
+-- 9: no byte of a burst was open
+abbrev pub shutData : Body → Bool → Bool
+shutData Nothing any = false
+shutData (FixedRead b) any = false
+shutData AnyRead any = false
+shutData (FixedWrite b) any = false
+shutData AnyWrite any = not any
+
+-- the first row that holds
+abbrev pub firstOf : List (Bool × Answer) → Answer
+firstOf [] = Done
+firstOf (r ∷ rs) = cond (r .0) (r .1) (firstOf rs)
+
+-- THE TABLE
+abbrev pub rows : Device → Facts → List (Bool × Answer)
+rows d f =
+    let s = settingOf d in
+    let k = f .kind in
+    let w = wiresFor s k in
+    let b = bodyFor s k (f .address) in
+    (fewer (f .counts .command) (commandClocks s), Short)
+    ∷ (asleepFor s k, Asleep)
+    ∷ (unknown k, Unknown)
+    ∷ (fewer (f .counts .address) (addressClocks s k), Short)
+    ∷ (refusedAt s k (f .address), Address)
+    ∷ (shortData b w (f .counts .body), Short)
+    ∷ (longRest b (f .counts .rest), Long)
+    ∷ (unarmed d k, Unarmed)
+    ∷ (unlatched d k, Latch)
+    ∷ (reservedFor (s .part) k (f .taken .value), Reserved)
+    ∷ (shutData b (f .taken .any), Protected)
+    ∷ []
+
+unfoldable pub judge : Device → Facts → Answer
+judge d f = firstOf (rows d f)

@@ -1,0 +1,62 @@
+-- What a read drives. Document 01, "Samples", second paragraph: every data clock of a read, also of an unfinished byte, and no other clock.
+use Prim.Native.Nat.{ℕ, _+_}
+use mathlib.Core.List.{List, [], _∷_}
+use lib.ListN.{getD}
+use Rattle.units.specs.declared.Clocks.{Clocks}
+use Rattle.units.specs.declared.Bytes.{Bytes}
+use Rattle.units.specs.Units.{clocks, wholeOf}
+use Rattle.wires.specs.Bits.{groupOf}
+use Rattle.wires.specs.Levels.{levelOf}
+use Rattle.opcodes.specs.declared.Register.{Register}
+use Rattle.opcodes.specs.declared.Register.the-variants.{ModeRegister, LongIdentity}
+use Rattle.opcodes.specs.declared.Kind.{Kind}
+use Rattle.opcodes.specs.declared.Kind.the-variants.{Unknown, Plain, ReadRegister, ReadAny, ReadMode, ReadIdentity, WriteRegister, WriteMode, ReadMemory, WriteMemory, ReadArea, WriteArea}
+use Rattle.commands.specs.declared.registers.Mapped.{Mapped}
+use Rattle.commands.specs.declared.registers.Mapped.the-variants.{At, Nowhere}
+use Rattle.commands.specs.Registers.{mappedOf}
+use Rattle.commands.specs.declared.plans.Body.{Body}
+use Rattle.commands.specs.declared.plans.Body.the-variants.{Nothing, FixedRead, AnyRead, FixedWrite, AnyWrite}
+use Rattle.record.specs.declared.Device.{Device}
+use Rattle.record.specs.declared.Setting.{Setting}
+use Rattle.record.specs.Devices.{settingOf}
+use Rattle.record.specs.Shows.{shownByte}
+use Rattle.places.specs.Places.{readPlace, areaPlace}
+use Rattle.paper.specs.InForce.{wiresFor}
+use Rattle.paper.specs.Storing.{Lent}
+
+abbrev pub mappedByte : Device → Mapped → Bytes → ℕ
+mappedByte d (At r) i = shownByte d r i
+mappedByte d Nowhere i = 0
+
+-- byte i of what a command reads
+unfoldable pub byteRead : Device → Kind → ℕ → Lent → Bytes → ℕ
+byteRead d Unknown address l i = 0
+byteRead d (Plain c) address l i = 0
+byteRead d (ReadRegister r) address l i = shownByte d r i
+byteRead d ReadAny address l i = mappedByte d (mappedOf (settingOf d .part) address) i
+byteRead d ReadMode address l i = shownByte d ModeRegister i
+byteRead d ReadIdentity address l i = shownByte d LongIdentity i
+byteRead d (WriteRegister r) address l i = 0
+byteRead d WriteMode address l i = 0
+byteRead d (ReadMemory s) address l i = getD (l .memory) (readPlace (settingOf d) address i) 0
+byteRead d (WriteMemory s) address l i = 0
+byteRead d ReadArea address l i = getD (l .area) (areaPlace (settingOf d .part) address i) 0
+byteRead d WriteArea address l i = 0
+
+-- the output byte of data clock t, counted from 0
+unfoldable pub levelAt : Device → Kind → ℕ → Lent → Clocks → ℕ
+levelAt d k address l t =
+    let w = wiresFor (settingOf d) k in
+    levelOf w (groupOf w t (byteRead d k address l (wholeOf w t)))
+
+abbrev pub drivenAt : Body → Device → Kind → ℕ → Lent → Clocks → ℕ
+drivenAt Nothing d k address l t = 0
+drivenAt (FixedRead b) d k address l t = levelAt d k address l t
+drivenAt AnyRead d k address l t = levelAt d k address l t
+drivenAt (FixedWrite b) d k address l t = 0
+drivenAt AnyWrite d k address l t = 0
+
+-- a value for each sample, by its place counted from t
+unfoldable pub along : (Clocks → ℕ) → ℕ → List ℕ → List ℕ
+along f t [] = []
+along f t (x ∷ xs) = f (clocks t) ∷ along f (t + 1) xs

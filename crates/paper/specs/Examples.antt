@@ -1,0 +1,102 @@
+-- Document 01's bench examples, one table under one computed proof over the definition of a transaction: (b) to (l). Each row sends samples to a fresh chip, or
+-- one with the registers that the example names, and looks at what comes back.
+use Prim.Native.Nat.{ℕ, _+_, _*_, _^_}
+use mathlib.Core.Bool.{Bool, true, false, not, _&&_}
+use mathlib.Core.List.{List, [], _∷_, _++_, map}
+use lib.Dec.{T, eqb, ltb}
+use lib.ListN.{length, getD, drop, replicate, set}
+use Rattle.basis.specs.Examples.{all, same}
+use Rattle.units.specs.declared.Wires.{Wires}
+use Rattle.units.specs.declared.Wires.the-variants.{One, Two, Four}
+use Rattle.units.specs.Units.{perByte}
+use Rattle.wires.specs.Bits.{shiftOf, gatherFrom, spread, groupOf}
+use Rattle.opcodes.specs.Kinds.{entryOf}
+use Rattle.commands.specs.Registers.{mappedOf}
+use Rattle.counts.specs.declared.Counts.{Counts}
+use Rattle.record.specs.declared.Device.{Device}
+use Rattle.record.specs.Answers.{answerNumber}
+use Rattle.record.specs.Fresh.{freshM, freshP}
+use Rattle.record.specs.Changes.{modeTo, modeRegisterTo, statusTo}
+use Rattle.values.specs.Values.{statusAllowed, cr3Allowed, cr4Allowed, configurationsAllowed, modeRegisterAllowed}
+use Rattle.values.specs.States.{modeAllowed, zeros, registersM, registersP, volatileM, volatileP, identityM, identityP, validOf}
+use Rattle.places.specs.Places.{readSpan, writeSpan, placeIn}
+use Rattle.places.specs.Protection.{shutMemory, sectionShut, protectedOf, areaProtectedOf}
+use Rattle.paper.specs.InForce.{asleepFor, refusedAt, stopped, commandClocks, wiresFor, addressClocks, waitClocks, bodyFor}
+use Rattle.paper.specs.Reading.{kindRead, addressRead, partsOf, bytesIn, dataBytes}
+use Rattle.paper.specs.Storing.{Lent, protectedAt, putAt, takeAll}
+use Rattle.paper.specs.Driving.{byteRead, levelAt, along}
+use Rattle.paper.specs.Answers.{judge, unlatched}
+use Rattle.paper.specs.Transaction.{World, sizedFor, roomFor, sampled, factsOf, drivenOf, over, clockedOf, transactOf}
+
+-- chips of 1,024 bytes
+abbrev m : Device
+m = freshM 10 (0 ∷ 0 ∷ 0 ∷ 0 ∷ []) (replicate 8 0)
+
+abbrev p : Device
+p = freshP 10 (replicate 8 0)
+
+abbrev blank : ℕ → List ℕ
+blank n = replicate n 0
+
+abbrev onM : List ℕ → Lent
+onM memory = record { memory = memory; area = blank 256 }
+
+abbrev onP : List ℕ → Lent
+onP memory = record { memory = memory; area = [] }
+
+-- a byte and an address on so many wires
+abbrev byte : Wires → ℕ → List ℕ
+byte w b = spread w (perByte w) b
+
+abbrev address : Wires → ℕ → List ℕ
+address w a = spread w (3 * perByte w) a
+
+abbrev sent : Device → Lent → List ℕ → World
+sent d l xs = transactOf d l xs (replicate (length xs) 0)
+
+abbrev answers : World → ℕ → List ℕ → Bool
+answers r a five =
+    eqb (answerNumber (r .answer)) a
+    && same (r .counts .command .0 ∷ r .counts .address .0 ∷ r .counts .wait .0 ∷ r .counts .body .0 ∷ r .counts .rest .0 ∷ []) five
+
+abbrev holds : World → ℕ → List ℕ → Bool
+holds r a bs = same (map (λ i. getD (r .lent .memory) i 0) (a ∷ [])) bs
+
+abbrev memoryAt : World → List ℕ → List ℕ
+memoryAt r places = map (λ i. getD (r .lent .memory) i 0) places
+
+unfoldable pub examples : List Bool
+examples =
+    -- (b) P, 0B, mode 4, one byte A5h
+    (let r = sent (modeTo 4 p) (onP (set (blank 1024) 0x12 0xA5)) (byte Four 0x0B ++ (address Four 0x12 ++ blank 6)) in
+    answers r 0 (2 ∷ 6 ∷ 4 ∷ 2 ∷ 0 ∷ []) && same (drop 12 (r .output)) (0xFA ∷ 0xF5 ∷ []))
+    -- (c) P, EB, mode 1, one byte
+    ∷ answers (sent p (onP (blank 1024)) (byte One 0xEB ++ (address Four 0 ++ blank 8))) 0 (8 ∷ 6 ∷ 6 ∷ 2 ∷ 0 ∷ [])
+    -- (d) P, 03, A5h
+    ∷ (let r = sent p (onP (set (blank 1024) 0 0xA5)) (byte One 0x03 ++ (address One 0 ++ blank 8)) in
+    same (drop 32 (r .output)) (0x22 ∷ 0x20 ∷ 0x22 ∷ 0x20 ∷ 0x20 ∷ 0x22 ∷ 0x20 ∷ 0x22 ∷ []))
+    -- (e) M, 65, mode 2, one byte
+    ∷ answers (sent (modeTo 2 m) (onM (blank 1024)) (byte Two 0x65 ++ (address Two 0x02 ++ blank 8))) 0 (4 ∷ 12 ∷ 4 ∷ 4 ∷ 0 ∷ [])
+    -- (f) P, group 16, four bytes at 0Eh
+    ∷ (let r = sent (modeRegisterTo 0 p) (onP (blank 1024)) (byte One 0x02 ++ (address One 0x0E ++ (byte One 1 ++ (byte One 2 ++ (byte One 3 ++ byte One 4))))) in
+    answers r 0 (8 ∷ 24 ∷ 0 ∷ 32 ∷ 0 ∷ []) && same (memoryAt r (0x0E ∷ 0x0F ∷ 0x00 ∷ 0x01 ∷ 0x10 ∷ [])) (1 ∷ 2 ∷ 3 ∷ 4 ∷ 0 ∷ []))
+    -- (g) M, four at 3FEh
+    ∷ (let r = sent m (onM (blank 1024)) (byte One 0x02 ++ (address One 0x3FE ++ (byte One 1 ++ (byte One 2 ++ (byte One 3 ++ byte One 4))))) in
+    same (memoryAt r (0x3FE ∷ 0x3FF ∷ 0x000 ∷ 0x001 ∷ [])) (1 ∷ 2 ∷ 3 ∷ 4 ∷ []))
+    -- (h) M, status 04h, four at 3EEh: two are stored
+    ∷ (let r = sent (statusTo 0x04 m) (onM (blank 1024)) (byte One 0x02 ++ (address One 0x3EE ++ (byte One 1 ++ (byte One 2 ++ (byte One 3 ++ byte One 4))))) in
+    answers r 0 (8 ∷ 24 ∷ 0 ∷ 32 ∷ 0 ∷ []) && same (memoryAt r (0x3EE ∷ 0x3EF ∷ 0x3F0 ∷ 0x3F1 ∷ [])) (1 ∷ 2 ∷ 0 ∷ 0 ∷ []))
+    -- (i) the same, two at 3F0h
+    ∷ answers (sent (statusTo 0x04 m) (onM (blank 1024)) (byte One 0x02 ++ (address One 0x3F0 ++ (byte One 1 ++ byte One 2)))) 9 (8 ∷ 24 ∷ 0 ∷ 16 ∷ 0 ∷ [])
+    -- (j) no clocks
+    ∷ answers (sent m (onM (blank 1024)) []) 4 (0 ∷ 0 ∷ 0 ∷ 0 ∷ 0 ∷ [])
+    -- (k) write enable with nine clocks
+    ∷ answers (sent m (onM (blank 1024)) (byte One 0x06 ++ (0 ∷ []))) 11 (8 ∷ 0 ∷ 0 ∷ 0 ∷ 1 ∷ [])
+    -- (l) M, address 400h; 3FFh is allowed
+    ∷ answers (sent m (onM (blank 1024)) (byte One 0x03 ++ (address One 0x400 ++ blank 8))) 7 (8 ∷ 24 ∷ 0 ∷ 0 ∷ 8 ∷ [])
+    ∷ answers (sent m (onM (blank 1024)) (byte One 0x03 ++ (address One 0x3FF ++ blank 8))) 0 (8 ∷ 24 ∷ 0 ∷ 8 ∷ 0 ∷ [])
+    ∷ []
+
+pub examples-hold : T (all examples)
+unfolding examples shiftOf gatherFrom spread groupOf entryOf mappedOf statusAllowed cr3Allowed cr4Allowed configurationsAllowed modeRegisterAllowed modeAllowed zeros registersM registersP volatileM volatileP identityM identityP validOf readSpan writeSpan placeIn shutMemory sectionShut protectedOf areaProtectedOf asleepFor refusedAt stopped commandClocks wiresFor addressClocks waitClocks bodyFor kindRead addressRead partsOf bytesIn dataBytes protectedAt putAt takeAll byteRead levelAt along judge unlatched sizedFor roomFor sampled factsOf drivenOf over clockedOf transactOf
+examples-hold = tt

@@ -1,0 +1,99 @@
+-- The plan in force. Document 01, "Answer numbers", the paragraph on counts: once 6, 5 or 7 is decided, every further clock is rest. So a plan that comes to
+-- nothing has no address, no wait and no data, and what follows it is rest by itself.
+use Prim.Native.Nat.{ℕ}
+use mathlib.Core.Bool.{Bool, true, false, cond, not, _&&_, _||_}
+use Rattle.units.specs.declared.Clocks.{Clocks}
+use Rattle.units.specs.declared.Wires.{Wires}
+use Rattle.units.specs.Units.{clocks, bytes, clocksOf}
+use Rattle.opcodes.specs.declared.Control.{Control}
+use Rattle.opcodes.specs.declared.Control.the-variants as Controls
+use Rattle.opcodes.specs.declared.Kind.{Kind}
+use Rattle.opcodes.specs.declared.Kind.the-variants.{Unknown, Plain, ReadRegister, ReadAny, ReadMode, ReadIdentity, WriteRegister, WriteMode, ReadMemory, WriteMemory, ReadArea, WriteArea}
+use Rattle.commands.specs.declared.plans.Address.{Address}
+use Rattle.commands.specs.declared.plans.Address.the-variants.{Absent, InMemory, InArea, InMap, LowNibbleZero, Ignored}
+use Rattle.commands.specs.declared.plans.Body.{Body}
+use Rattle.commands.specs.declared.plans.Body.the-variants.{Nothing}
+use Rattle.commands.specs.Plans.{laterWires, addressOf, waitOf, bodyOf}
+use Rattle.record.specs.declared.Registers.{Registers}
+use Rattle.record.specs.declared.Setting.{Setting}
+use Rattle.places.specs.Addresses.{allowedOf}
+
+-- AB
+abbrev wake : Control → Bool
+wake Controls.NoOperation = false
+wake Controls.WriteEnable = false
+wake Controls.WriteDisable = false
+wake Controls.ToOne = false
+wake Controls.ToTwo = false
+wake Controls.ToFour = false
+wake Controls.Sleep = false
+wake Controls.Wake = true
+wake Controls.ResetEnable = false
+wake Controls.Reset = false
+wake Controls.Toggle = false
+
+abbrev pub wakes : Kind → Bool
+wakes Unknown = false
+wakes (Plain c) = wake c
+wakes (ReadRegister r) = false
+wakes ReadAny = false
+wakes ReadMode = false
+wakes ReadIdentity = false
+wakes (WriteRegister r) = false
+wakes WriteMode = false
+wakes (ReadMemory s) = false
+wakes (WriteMemory s) = false
+wakes ReadArea = false
+wakes WriteArea = false
+
+abbrev pub unknown : Kind → Bool
+unknown Unknown = true
+unknown (Plain c) = false
+unknown (ReadRegister r) = false
+unknown ReadAny = false
+unknown ReadMode = false
+unknown ReadIdentity = false
+unknown (WriteRegister r) = false
+unknown WriteMode = false
+unknown (ReadMemory s) = false
+unknown (WriteMemory s) = false
+unknown ReadArea = false
+unknown WriteArea = false
+
+-- 6: asleep, and the command does not wake
+unfoldable pub asleepFor : Setting → Kind → Bool
+asleepFor s k = s .asleep && not (wakes k)
+
+-- 7: an address that the command must not have
+unfoldable pub refusedAt : Setting → Kind → ℕ → Bool
+refusedAt s k address = not (allowedOf s (addressOf k) address)
+
+-- 6 or 5 is decided
+unfoldable pub stopped : Setting → Kind → Bool
+stopped s k = asleepFor s k || unknown k
+
+-- an address is 24 bits long, which is three bytes
+abbrev pub addressLength : Address → Wires → Clocks
+addressLength Absent w = clocks 0
+addressLength InMemory w = clocksOf w (bytes 3)
+addressLength InArea w = clocksOf w (bytes 3)
+addressLength InMap w = clocksOf w (bytes 3)
+addressLength LowNibbleZero w = clocksOf w (bytes 3)
+addressLength Ignored w = clocksOf w (bytes 3)
+
+-- the clocks of each phase
+unfoldable pub commandClocks : Setting → Clocks
+commandClocks s = clocksOf (s .wires) (bytes 1)
+
+-- the wires of address, wait and data
+unfoldable pub wiresFor : Setting → Kind → Wires
+wiresFor s k = laterWires k (s .wires)
+
+unfoldable pub addressClocks : Setting → Kind → Clocks
+addressClocks s k = cond (stopped s k) (clocks 0) (addressLength (addressOf k) (wiresFor s k))
+
+unfoldable pub waitClocks : Setting → Kind → ℕ → Clocks
+waitClocks s k address = cond (stopped s k || refusedAt s k address) (clocks 0) (waitOf k (s .wires) (s .registers .cr2))
+
+unfoldable pub bodyFor : Setting → Kind → ℕ → Body
+bodyFor s k address = cond (stopped s k || refusedAt s k address) Nothing (bodyOf (s .part) k address)
