@@ -6,7 +6,8 @@ use mathlib.Core.List.{List, [], _∷_}
 use lib.Dec.{ltb}
 use Rattle.units.specs.declared.Clocks.{Clocks}
 use Rattle.units.specs.declared.Wires.{Wires}
-use Rattle.units.specs.Units.{bytes, clocks, clocksOf}
+use Rattle.units.specs.declared.Bytes.{Bytes}
+use Rattle.units.specs.Units.{bytes, clocks, wholeOf}
 use Rattle.opcodes.specs.declared.Control.{Control}
 use Rattle.opcodes.specs.declared.Control.the-variants as Controls
 use Rattle.opcodes.specs.declared.Register.the-variants.{ModeRegister}
@@ -33,17 +34,20 @@ pub record Facts : Type 0 where
   pub counts : Counts
   pub taken : Taken
 
--- so many clocks are fewer than those
-abbrev fewer : Clocks → Clocks → Bool
+-- so many clocks are fewer than those, and so many bytes
+abbrev pub fewer : Clocks → Clocks → Bool
 fewer c d = ltb (c .0) (d .0)
+
+abbrev pub fewerBytes : Bytes → Bytes → Bool
+fewerBytes b c = ltb (b .0) (c .0)
 
 -- 4: a write without a whole byte, or a fixed one that is not full; a read may end anywhere
 abbrev pub shortData : Body → Wires → Clocks → Bool
 shortData Nothing w t = false
 shortData (FixedRead b) w t = false
 shortData AnyRead w t = false
-shortData (FixedWrite b) w t = fewer t (clocksOf w b)
-shortData AnyWrite w t = fewer t (clocksOf w (bytes 1))
+shortData (FixedWrite b) w t = fewerBytes (wholeOf w t) b
+shortData AnyWrite w t = fewerBytes (wholeOf w t) (bytes 1)
 
 -- 11: a clock too many for a command without data or a fixed write
 abbrev pub longRest : Body → Clocks → Bool

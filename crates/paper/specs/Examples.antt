@@ -21,7 +21,7 @@ use Rattle.values.specs.Values.{statusAllowed, cr3Allowed, cr4Allowed, configur
 use Rattle.values.specs.States.{modeAllowed, zeros, registersM, registersP, volatileM, volatileP, identityM, identityP, validOf}
 use Rattle.places.specs.Places.{readSpan, writeSpan, placeIn}
 use Rattle.places.specs.Protection.{shutMemory, sectionShut, protectedOf, areaProtectedOf}
-use Rattle.paper.specs.InForce.{asleepFor, refusedAt, stopped, commandClocks, wiresFor, addressClocks, waitClocks, bodyFor}
+use Rattle.paper.specs.InForce.{asleepFor, refusedAt, stopped, decided, commandClocks, wiresFor, addressClocks, waitClocks, bodyFor}
 use Rattle.paper.specs.Reading.{kindRead, addressRead, partsOf, bytesIn, dataBytes}
 use Rattle.paper.specs.Storing.{Lent, protectedAt, putAt, takeAll}
 use Rattle.paper.specs.Driving.{byteRead, levelAt, along}
@@ -98,5 +98,5 @@ examples =
     ∷ []
 
 pub examples-hold : T (all examples)
-unfolding examples shiftOf gatherFrom spread groupOf entryOf mappedOf statusAllowed cr3Allowed cr4Allowed configurationsAllowed modeRegisterAllowed modeAllowed zeros registersM registersP volatileM volatileP identityM identityP validOf readSpan writeSpan placeIn shutMemory sectionShut protectedOf areaProtectedOf asleepFor refusedAt stopped commandClocks wiresFor addressClocks waitClocks bodyFor kindRead addressRead partsOf bytesIn dataBytes protectedAt putAt takeAll byteRead levelAt along judge unlatched sizedFor roomFor sampled factsOf drivenOf over clockedOf transactOf
+unfolding examples shiftOf gatherFrom spread groupOf entryOf mappedOf statusAllowed cr3Allowed cr4Allowed configurationsAllowed modeRegisterAllowed modeAllowed zeros registersM registersP volatileM volatileP identityM identityP validOf readSpan writeSpan placeIn shutMemory sectionShut protectedOf areaProtectedOf asleepFor refusedAt stopped decided commandClocks wiresFor addressClocks waitClocks bodyFor kindRead addressRead partsOf bytesIn dataBytes protectedAt putAt takeAll byteRead levelAt along judge unlatched sizedFor roomFor sampled factsOf drivenOf over clockedOf transactOf
 examples-hold = tt

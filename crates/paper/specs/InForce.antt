@@ -72,6 +72,10 @@ refusedAt s k address = not (allowedOf s (addressOf k) address)
 unfoldable pub stopped : Setting → Kind → Bool
 stopped s k = asleepFor s k || unknown k
 
+-- 6, 5 or 7 is decided
+unfoldable pub decided : Setting → Kind → ℕ → Bool
+decided s k address = stopped s k || refusedAt s k address
+
 -- an address is 24 bits long, which is three bytes
 abbrev pub addressLength : Address → Wires → Clocks
 addressLength Absent w = clocks 0
@@ -93,7 +97,7 @@ unfoldable pub addressClocks : Setting → Kind → Clocks
 addressClocks s k = cond (stopped s k) (clocks 0) (addressLength (addressOf k) (wiresFor s k))
 
 unfoldable pub waitClocks : Setting → Kind → ℕ → Clocks
-waitClocks s k address = cond (stopped s k || refusedAt s k address) (clocks 0) (waitOf k (s .wires) (s .registers .cr2))
+waitClocks s k address = cond (decided s k address) (clocks 0) (waitOf k (s .wires) (s .registers .cr2))
 
 unfoldable pub bodyFor : Setting → Kind → ℕ → Body
-bodyFor s k address = cond (stopped s k || refusedAt s k address) Nothing (bodyOf (s .part) k address)
+bodyFor s k address = cond (decided s k address) Nothing (bodyOf (s .part) k address)

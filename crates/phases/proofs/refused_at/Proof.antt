@@ -1,0 +1,18 @@
+-- `phases::refused_at` meets its contract: the contrary of allowed.
+-- Assumes nothing.
+use Rattle.paper.specs.InForce.{refusedAt}
+use borrow.Author.Needs.{needs}
+use Rattle.phases.proofs.refused_at.Statement.{statement}
+use Rattle.phases.proofs.refused_at.Tie as tie
+
+pub refused-at-spec : {M : Type 1} → statement M
+unfolding refusedAt
+refused-at-spec =
+    tie.close
+    (tie.spec
+    -- address-of-requires
+    (λ c κs. search needs)
+    -- allowed-requires
+    (λ c κs. search needs)
+    -- returns
+    (λ c. rw (c .allowed .ensures, c .before .address-of .ensures)))

@@ -1,0 +1,167 @@
+// The plan in force: how many clocks each phase of a transaction has, and what its data is, once it is known
+// whether the command is answered at all.
+ghost use mathlib.Core.Path.{_≡_};
+ghost use Prim.Native.Nat.{_≤_};
+ghost use Rattle.paper.specs.InForce.{wakes, unknown, asleepFor, refusedAt, stopped, decided, addressLength, commandClocks, wiresFor, addressClocks, waitClocks, bodyFor};
+use commands::plans::Address;
+use commands::plans::Body;
+use commands::plans::address_of;
+use commands::plans::body_of;
+use commands::plans::later_wires;
+use commands::plans::wait_of;
+use opcodes::Control;
+use opcodes::Kind;
+use record::Setting;
+use units::Bytes;
+use units::Clocks;
+use units::Wires;
+
+// Whether a command wakes a chip that sleeps.
+pub fn is_waking(k: Kind) -> bool
+    ensures { λ r. ⌜ r ≡ wakes k ⌝ }
+{
+    match k {
+        Kind::Unknown => false,
+        Kind::Plain(c) => match c {
+            Control::NoOperation => false,
+            Control::WriteEnable => false,
+            Control::WriteDisable => false,
+            Control::ToOne => false,
+            Control::ToTwo => false,
+            Control::ToFour => false,
+            Control::Sleep => false,
+            Control::Wake => true,
+            Control::ResetEnable => false,
+            Control::Reset => false,
+            Control::Toggle => false,
+        },
+        Kind::ReadRegister(_) => false,
+        Kind::ReadAny => false,
+        Kind::ReadMode => false,
+        Kind::ReadIdentity => false,
+        Kind::WriteRegister(_) => false,
+        Kind::WriteMode => false,
+        Kind::ReadMemory(_) => false,
+        Kind::WriteMemory(_) => false,
+        Kind::ReadArea => false,
+        Kind::WriteArea => false,
+    }
+}
+
+// Whether there is no such command.
+pub fn is_unknown(k: Kind) -> bool
+    ensures { λ r. ⌜ r ≡ unknown k ⌝ }
+{
+    match k {
+        Kind::Unknown => true,
+        Kind::Plain(_) => false,
+        Kind::ReadRegister(_) => false,
+        Kind::ReadAny => false,
+        Kind::ReadMode => false,
+        Kind::ReadIdentity => false,
+        Kind::WriteRegister(_) => false,
+        Kind::WriteMode => false,
+        Kind::ReadMemory(_) => false,
+        Kind::WriteMemory(_) => false,
+        Kind::ReadArea => false,
+        Kind::WriteArea => false,
+    }
+}
+
+// Whether the chip sleeps through the command.
+pub fn asleep_for(s: Setting, k: Kind) -> bool
+    ensures { λ r. ⌜ r ≡ asleepFor s k ⌝ }
+{
+    if s.asleep {
+        return !is_waking(k);
+    }
+    false
+}
+
+// Whether the command must not have this address.
+pub fn refused_at(s: Setting, k: Kind, address: u32) -> bool
+    requires { ⌜ s .n ≤ 24 ⌝ }
+    ensures { λ r. ⌜ r ≡ refusedAt s k address ⌝ }
+{
+    !places::allowed(s, address_of(k), address)
+}
+
+// Whether the transaction is decided with its command.
+pub fn is_stopped(s: Setting, k: Kind) -> bool
+    ensures { λ r. ⌜ r ≡ stopped s k ⌝ }
+{
+    if asleep_for(s, k) {
+        return true;
+    }
+    is_unknown(k)
+}
+
+// Whether it is decided with its address.
+fn is_decided(s: Setting, k: Kind, address: u32) -> bool
+    requires { ⌜ s .n ≤ 24 ⌝ }
+    ensures { λ r. ⌜ r ≡ decided s k address ⌝ }
+{
+    if is_stopped(s, k) {
+        return true;
+    }
+    refused_at(s, k, address)
+}
+
+pub fn command_clocks(s: Setting) -> Clocks
+    ensures { λ r. ⌜ r ≡ commandClocks s ⌝ }
+{
+    let w = s.wires;
+    units::bytes_to_clocks(Bytes(1), w)
+}
+
+// The wires of address, wait and data.
+pub fn wires_for(s: Setting, k: Kind) -> Wires
+    ensures { λ r. ⌜ r ≡ wiresFor s k ⌝ }
+{
+    let w = s.wires;
+    later_wires(k, w)
+}
+
+fn address_length(a: Address, w: Wires) -> Clocks
+    ensures { λ r. ⌜ r ≡ addressLength a w ⌝ }
+{
+    match a {
+        Address::Absent => Clocks(0),
+        Address::InMemory => units::bytes_to_clocks(Bytes(3), w),
+        Address::InArea => units::bytes_to_clocks(Bytes(3), w),
+        Address::InMap => units::bytes_to_clocks(Bytes(3), w),
+        Address::LowNibbleZero => units::bytes_to_clocks(Bytes(3), w),
+        Address::Ignored => units::bytes_to_clocks(Bytes(3), w),
+    }
+}
+
+pub fn address_clocks(s: Setting, k: Kind) -> Clocks
+    ensures { λ r. ⌜ r ≡ addressClocks s k ⌝ }
+{
+    if is_stopped(s, k) {
+        return Clocks(0);
+    }
+    address_length(address_of(k), wires_for(s, k))
+}
+
+pub fn wait_clocks(s: Setting, k: Kind, address: u32) -> Clocks
+    requires { ⌜ s .n ≤ 24 ⌝ }
+    ensures { λ r. ⌜ r ≡ waitClocks s k address ⌝ }
+{
+    if is_decided(s, k, address) {
+        return Clocks(0);
+    }
+    let w = s.wires;
+    wait_of(k, w, s.registers.cr2)
+}
+
+pub fn body_for(s: Setting, k: Kind, address: u32) -> Body
+    requires { ⌜ s .n ≤ 24 ⌝ }
+    ensures { λ r. ⌜ r ≡ bodyFor s k address ⌝ }
+{
+    if is_decided(s, k, address) {
+        return Body::Nothing;
+    }
+    let part = s.part;
+    body_of(part, k, address)
+}
