@@ -1,0 +1,14 @@
+-- `clocking::rest_step` meets its contract: one clock more of the rest.
+-- Assumes nothing.
+use borrow.Author.Needs.{needs}
+use Rattle.clocking.proofs.rest_step.Statement.{statement}
+use Rattle.clocking.proofs.rest_step.Tie as tie
+
+pub rest-step-spec : {M : Type 1} → statement M
+rest-step-spec =
+    tie.close
+    (tie.spec
+    -- rest-tick-requires
+    (λ c κs. search needs)
+    -- returns
+    (λ c. rw (c .rest-tick .ensures)))
