@@ -1,0 +1,38 @@
+-- `feeding::drive` meets its contract: only data clocks drive.
+-- Assumes nothing.
+use Rattle.clocking.specs.Machine.{driveOf}
+use borrow.Author.Needs.{needs}
+use Rattle.feeding.proofs.drive.Statement.{statement}
+use Rattle.feeding.proofs.drive.Tie as tie
+
+pub drive-spec : {M : Type 1} → statement M
+unfolding driveOf
+drive-spec =
+    tie.close
+    (tie.spec
+    -- enum-told
+    (λ c. search needs)
+    -- enum-told-2
+    (λ c. search needs)
+    -- enum-told-3
+    (λ c. search needs)
+    -- enum-told-4
+    (λ c. search needs)
+    -- setting-requires
+    (λ c κs. search needs)
+    -- body-for-requires
+    (λ c κs. rw (c .setting .ensures) (c .before .before .before .before .before .before .before .pre .0))
+    -- driven-at-requires
+    (λ c κs. search needs)
+    -- enum-told-5
+    (λ c. search needs)
+    -- returns
+    (λ c. rw (c .enum-told .given .1))
+    -- returns-2
+    (λ c. rw (c .enum-told2 .given .1))
+    -- returns-3
+    (λ c. rw (c .enum-told3 .given .1))
+    -- returns-4
+    (λ c. rw (c .before .before .before .enum-told4 .given .1, c .driven-at .ensures, c .before .body-for .ensures, c .before .before .setting .ensures))
+    -- returns-5
+    (λ c. rw (c .enum-told5 .given .1)))
