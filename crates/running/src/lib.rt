@@ -1,0 +1,35 @@
+// A stretch of clocks fed to an unfinished transaction: what each drives goes to the output, and what they
+// leave comes back.
+ghost use Prim.Native.Nat.{_+_, _≤_};
+ghost use lib.ListN.{length};
+ghost use Rattle.counts.specs.Counts.{total};
+ghost use Rattle.feeding.specs.Views.{runAs};
+ghost use Rattle.running.specs.Fed.{Ready, Fed};
+use clocking::Progress;
+use feeding::drive;
+use feeding::step;
+use record::Device;
+
+pub fn feed(
+    d: Device,
+    p: Progress,
+    memory: &mut [u8],
+    area: &mut [u8],
+    samples: &[u8],
+    output: &mut [u8],
+) -> Progress
+    requires { ⌜ Ready d p (now samples) (now output) ⌝ }
+    ensures { λ r. ⌜ Fed d (runAs p (now (memory .entry)) (now (area .entry))) (now (samples .entry)) (now (output .entry)) (runAs r (now (memory .exit)) (now (area .exit))) (now (output .exit)) ⌝ }
+{
+    let s = d.setting();
+    let latch = d.volatile.latch;
+    let mut q = p;
+    let mut i = 0;
+    while i < samples.len() {
+        let x = samples[i];
+        output[i] = drive(d, q, memory, area);
+        q = step(s, latch, q, x, memory, area);
+        i += 1;
+    }
+    q
+}
