@@ -1,14 +1,14 @@
 -- The machine: a transaction, clock by clock. Progress holds facts only. It has no verdict, which is judged at the end, and no countdown: a phase is full when its count
 -- has reached its clocks.
-use Prim.Native.Nat.{ℕ, _+_, _%_}
-use mathlib.Core.Bool.{Bool, true, false, cond, not, _&&_}
+use Prim.Native.Nat.{ℕ, _%_}
+use mathlib.Core.Bool.{Bool, true, false, cond}
 use mathlib.Core.List.{List, [], _∷_}
 use lib.Dec.{eqb, leb}
 use lib.ListN.{replicate}
 use Rattle.units.specs.declared.Clocks.{Clocks}
 use Rattle.units.specs.declared.Bytes.{Bytes}
 use Rattle.units.specs.declared.Wires.{Wires}
-use Rattle.units.specs.Units.{clocks, bytes, wholeOf, unfinishedOf}
+use Rattle.units.specs.Units.{clocks, wholeOf, unfinishedOf}
 use Rattle.wires.specs.Bits.{shiftOf}
 use Rattle.opcodes.specs.declared.Kind.{Kind}
 use Rattle.opcodes.specs.declared.Kind.the-variants.{Unknown}
@@ -20,7 +20,7 @@ use Rattle.counts.specs.Counts.{noCounts, commandTick, addressTick, waitTick, b
 use Rattle.record.specs.declared.Device.{Device}
 use Rattle.record.specs.declared.Setting.{Setting}
 use Rattle.record.specs.Devices.{settingOf}
-use Rattle.record.specs.Latches.{latchNeeded}
+use Rattle.record.specs.Latches.{latchMissing}
 use Rattle.paper.specs.InForce.{commandClocks, wiresFor, addressClocks, waitClocks, bodyFor}
 use Rattle.paper.specs.Storing.{Lent, Taken, takeByte}
 use Rattle.paper.specs.Driving.{drivenAt}
@@ -90,7 +90,7 @@ abbrev pub heldBack : Bool → Taken → Taken → Taken
 heldBack hold t u = record { lent = cond hold (t .lent) (u .lent); value = u .value; any = u .any }
 
 abbrev pub holds : Setting → Bool → Kind → Bool
-holds s latch k = latchNeeded (s .part) (s .registers .cr4) k && not latch
+holds s latch k = latchMissing (s .part) (s .registers .cr4) latch k
 
 abbrev pub byteIn : Setting → Bool → Kind → ℕ → Bytes → ℕ → Taken → Taken
 byteIn s latch k a i b t = heldBack (holds s latch k) t (takeByte (bodyFor s k a) s k a i b t)

@@ -1,5 +1,5 @@
 -- The five clock counts. Document 01, "Answer numbers", the paragraph on counts: command, address, wait, data, rest, in this order.
-use Prim.Native.Nat.{ℕ, _+_}
+use Prim.Native.Nat.{_+_}
 use Rattle.units.specs.declared.Clocks.{Clocks}
 use Rattle.units.specs.Units.{clocks}
 use Rattle.counts.specs.declared.Counts.{Counts}

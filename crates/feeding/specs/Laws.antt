@@ -4,7 +4,7 @@ use mathlib.Core.Path.{_≡_, refl, ap, sym}
 use mathlib.Core.Bool.{Bool, true, false, cond}
 use mathlib.Core.List.{List}
 use Prim.Native.Nat.{ℕ}
-use Rattle.paper.specs.Storing.{Lent, Taken}
+use Rattle.paper.specs.Storing.{Taken}
 use Rattle.record.specs.declared.Setting.{Setting}
 use Rattle.clocking.specs.declared.Phase.{Phase}
 use Rattle.clocking.specs.Machine.{heldBack, Run, stepIn, stepOf}

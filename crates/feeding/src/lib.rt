@@ -17,7 +17,7 @@ use commands::plans::Body;
 use opcodes::Kind;
 use record::Device;
 use record::Setting;
-use record::latch_needed;
+use record::latch_missing;
 use units::Bytes;
 use units::Clocks;
 use units::Wires;
@@ -33,17 +33,6 @@ pub struct Holding {
     pub number: u32,
     pub value: [u8; 8],
     pub any: bool,
-}
-
-// Whether the latch holds a write back.
-fn is_held(s: Setting, latch: bool, k: Kind) -> bool
-    ensures { λ r. ⌜ r ≡ holds s latch k ⌝ }
-{
-    let part = s.part;
-    if latch_needed(part, s.registers.cr4, k) {
-        return !latch;
-    }
-    false
 }
 
 // Byte `i` of eight places.
@@ -77,7 +66,8 @@ fn store_byte(
     if protected_at(s, k, address, i) {
         return Taking { value, any };
     }
-    if is_held(s, latch, k) {
+    let part = s.part;
+    if latch_missing(part, s.registers.cr4, latch, k) {
         return Taking { value, any: true };
     }
     put_at(s, k, address, i, b, memory, area);

@@ -20,9 +20,8 @@ use Rattle.parts.specs.declared.Part.{Part}
 use Rattle.record.specs.declared.Answer.{Answer}
 use Rattle.record.specs.declared.Answer.the-variants.{Done, Short, Unknown, Asleep, Address, Latch, Protected, Reserved, Long, Unarmed}
 use Rattle.record.specs.declared.Device.{Device}
-use Rattle.record.specs.declared.Setting.{Setting}
 use Rattle.record.specs.Devices.{settingOf}
-use Rattle.record.specs.Latches.{latchNeeded}
+use Rattle.record.specs.Latches.{latchMissing}
 use Rattle.values.specs.Values.{reservedOf}
 use Rattle.paper.specs.InForce.{unknown, asleepFor, refusedAt, commandClocks, addressClocks, bodyFor, wiresFor}
 use Rattle.paper.specs.Storing.{Taken}
@@ -71,23 +70,22 @@ resets Controls.ResetEnable = false
 resets Controls.Reset = true
 resets Controls.Toggle = false
 
-abbrev pub unarmed : Device → Kind → Bool
-unarmed d Kinds.Unknown = false
-unarmed d (Kinds.Plain c) = resets c && not (d .volatile .armed)
-unarmed d (Kinds.ReadRegister r) = false
-unarmed d Kinds.ReadAny = false
-unarmed d Kinds.ReadMode = false
-unarmed d Kinds.ReadIdentity = false
-unarmed d (Kinds.WriteRegister r) = false
-unarmed d Kinds.WriteMode = false
-unarmed d (Kinds.ReadMemory s) = false
-unarmed d (Kinds.WriteMemory s) = false
-unarmed d Kinds.ReadArea = false
-unarmed d Kinds.WriteArea = false
+abbrev pub resetting : Kind → Bool
+resetting Kinds.Unknown = false
+resetting (Kinds.Plain c) = resets c
+resetting (Kinds.ReadRegister r) = false
+resetting Kinds.ReadAny = false
+resetting Kinds.ReadMode = false
+resetting Kinds.ReadIdentity = false
+resetting (Kinds.WriteRegister r) = false
+resetting Kinds.WriteMode = false
+resetting (Kinds.ReadMemory s) = false
+resetting (Kinds.WriteMemory s) = false
+resetting Kinds.ReadArea = false
+resetting Kinds.WriteArea = false
 
--- 8: the latch is needed and down
-unfoldable pub unlatched : Device → Kind → Bool
-unlatched d k = latchNeeded (settingOf d .part) (d .registers .cr4) k && not (d .volatile .latch)
+unfoldable pub unarmed : Bool → Kind → Bool
+unarmed armed k = resetting k && not armed
 
 -- 10: the value of a register write
 abbrev pub reservedFor : Part → Kind → List ℕ → Bool
@@ -117,25 +115,31 @@ abbrev pub firstOf : List (Bool × Answer) → Answer
 firstOf [] = Done
 firstOf (r ∷ rs) = cond (r .0) (r .1) (firstOf rs)
 
--- THE TABLE
+-- the rows of the table that look at the data
+abbrev pub dataRows : Device → Facts → List (Bool × Answer)
+dataRows d f =
+    let s = settingOf d in
+    let k = f .kind in
+    let b = bodyFor s k (f .address) in
+    (shortData b (wiresFor s k) (f .counts .body), Short)
+    ∷ (longRest b (f .counts .rest), Long)
+    ∷ (unarmed (d .volatile .armed) k, Unarmed)
+    ∷ (latchMissing (s .part) (s .registers .cr4) (d .volatile .latch) k, Latch)
+    ∷ (reservedFor (s .part) k (f .taken .value), Reserved)
+    ∷ (shutData b (f .taken .any), Protected)
+    ∷ []
+
+-- THE TABLE: the rows that are decided before any data, and then those
 abbrev pub rows : Device → Facts → List (Bool × Answer)
 rows d f =
     let s = settingOf d in
     let k = f .kind in
-    let w = wiresFor s k in
-    let b = bodyFor s k (f .address) in
     (fewer (f .counts .command) (commandClocks s), Short)
     ∷ (asleepFor s k, Asleep)
     ∷ (unknown k, Unknown)
     ∷ (fewer (f .counts .address) (addressClocks s k), Short)
     ∷ (refusedAt s k (f .address), Address)
-    ∷ (shortData b w (f .counts .body), Short)
-    ∷ (longRest b (f .counts .rest), Long)
-    ∷ (unarmed d k, Unarmed)
-    ∷ (unlatched d k, Latch)
-    ∷ (reservedFor (s .part) k (f .taken .value), Reserved)
-    ∷ (shutData b (f .taken .any), Protected)
-    ∷ []
+    ∷ dataRows d f
 
 unfoldable pub judge : Device → Facts → Answer
 judge d f = firstOf (rows d f)

@@ -7,7 +7,6 @@ use Rattle.units.specs.declared.Bytes.{Bytes}
 use Rattle.units.specs.Units.{clocks, wholeOf}
 use Rattle.wires.specs.Bits.{groupOf}
 use Rattle.wires.specs.Levels.{levelOf}
-use Rattle.opcodes.specs.declared.Register.{Register}
 use Rattle.opcodes.specs.declared.Register.the-variants.{ModeRegister, LongIdentity}
 use Rattle.opcodes.specs.declared.Kind.{Kind}
 use Rattle.opcodes.specs.declared.Kind.the-variants.{Unknown, Plain, ReadRegister, ReadAny, ReadMode, ReadIdentity, WriteRegister, WriteMode, ReadMemory, WriteMemory, ReadArea, WriteArea}
@@ -17,7 +16,6 @@ use Rattle.commands.specs.Registers.{mappedOf}
 use Rattle.commands.specs.declared.plans.Body.{Body}
 use Rattle.commands.specs.declared.plans.Body.the-variants.{Nothing, FixedRead, AnyRead, FixedWrite, AnyWrite}
 use Rattle.record.specs.declared.Device.{Device}
-use Rattle.record.specs.declared.Setting.{Setting}
 use Rattle.record.specs.Devices.{settingOf}
 use Rattle.record.specs.Shows.{shownByte}
 use Rattle.places.specs.Places.{readPlace, areaPlace}

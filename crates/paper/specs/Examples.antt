@@ -1,9 +1,9 @@
 -- Document 01's bench examples, one table under one computed proof over the definition of a transaction: (b) to (l). Each row sends samples to a fresh chip, or
 -- one with the registers that the example names, and looks at what comes back.
-use Prim.Native.Nat.{ℕ, _+_, _*_, _^_}
-use mathlib.Core.Bool.{Bool, true, false, not, _&&_}
+use Prim.Native.Nat.{ℕ, _*_}
+use mathlib.Core.Bool.{Bool, _&&_}
 use mathlib.Core.List.{List, [], _∷_, _++_, map}
-use lib.Dec.{T, eqb, ltb}
+use lib.Dec.{T, eqb}
 use lib.ListN.{length, getD, drop, replicate, set}
 use Rattle.basis.specs.Examples.{all, same}
 use Rattle.units.specs.declared.Wires.{Wires}
@@ -12,10 +12,10 @@ use Rattle.units.specs.Units.{perByte}
 use Rattle.wires.specs.Bits.{shiftOf, gatherFrom, spread, groupOf}
 use Rattle.opcodes.specs.Kinds.{entryOf}
 use Rattle.commands.specs.Registers.{mappedOf}
-use Rattle.counts.specs.declared.Counts.{Counts}
 use Rattle.record.specs.declared.Device.{Device}
 use Rattle.record.specs.Answers.{answerNumber}
 use Rattle.record.specs.Fresh.{freshM, freshP}
+use Rattle.record.specs.Latches.{latchMissing}
 use Rattle.record.specs.Changes.{modeTo, modeRegisterTo, statusTo}
 use Rattle.values.specs.Values.{statusAllowed, cr3Allowed, cr4Allowed, configurationsAllowed, modeRegisterAllowed}
 use Rattle.values.specs.States.{modeAllowed, zeros, registersM, registersP, volatileM, volatileP, identityM, identityP, validOf}
@@ -25,7 +25,7 @@ use Rattle.paper.specs.InForce.{asleepFor, refusedAt, stopped, decided, 
 use Rattle.paper.specs.Reading.{kindRead, addressRead, partsOf, bytesIn, dataBytes}
 use Rattle.paper.specs.Storing.{Lent, protectedAt, putAt, takeAll}
 use Rattle.paper.specs.Driving.{byteRead, levelAt, along}
-use Rattle.paper.specs.Answers.{judge, unlatched}
+use Rattle.paper.specs.Answers.{judge, unarmed}
 use Rattle.paper.specs.Transaction.{World, sizedFor, roomFor, sampled, factsOf, drivenOf, over, clockedOf, transactOf}
 
 -- chips of 1,024 bytes
@@ -98,5 +98,5 @@ examples =
     ∷ []
 
 pub examples-hold : T (all examples)
-unfolding examples shiftOf gatherFrom spread groupOf entryOf mappedOf statusAllowed cr3Allowed cr4Allowed configurationsAllowed modeRegisterAllowed modeAllowed zeros registersM registersP volatileM volatileP identityM identityP validOf readSpan writeSpan placeIn shutMemory sectionShut protectedOf areaProtectedOf asleepFor refusedAt stopped decided commandClocks wiresFor addressClocks waitClocks bodyFor kindRead addressRead partsOf bytesIn dataBytes protectedAt putAt takeAll byteRead levelAt along judge unlatched sizedFor roomFor sampled factsOf drivenOf over clockedOf transactOf
+unfolding examples shiftOf gatherFrom spread groupOf entryOf mappedOf statusAllowed cr3Allowed cr4Allowed configurationsAllowed modeRegisterAllowed modeAllowed zeros registersM registersP volatileM volatileP identityM identityP validOf readSpan writeSpan placeIn shutMemory sectionShut protectedOf areaProtectedOf asleepFor refusedAt stopped decided commandClocks wiresFor addressClocks waitClocks bodyFor kindRead addressRead partsOf bytesIn dataBytes protectedAt putAt takeAll byteRead levelAt along judge unarmed latchMissing sizedFor roomFor sampled factsOf drivenOf over clockedOf transactOf
 examples-hold = tt

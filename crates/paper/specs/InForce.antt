@@ -14,7 +14,6 @@ use Rattle.commands.specs.declared.plans.Address.the-variants.{Absent, InMemory
 use Rattle.commands.specs.declared.plans.Body.{Body}
 use Rattle.commands.specs.declared.plans.Body.the-variants.{Nothing}
 use Rattle.commands.specs.Plans.{laterWires, addressOf, waitOf, bodyOf}
-use Rattle.record.specs.declared.Registers.{Registers}
 use Rattle.record.specs.declared.Setting.{Setting}
 use Rattle.places.specs.Addresses.{allowedOf}
 

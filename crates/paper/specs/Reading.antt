@@ -1,11 +1,10 @@
 -- What the device reads off the samples. Document 01, "Answer numbers", the paragraph on counts: clocks are given to the phases in order.
-use Prim.Native.Nat.{ℕ, zero, suc, _*_, _/_}
+use Prim.Native.Nat.{ℕ, zero, suc}
 use mathlib.Core.Bool.{Bool, cond}
 use mathlib.Core.List.{List, [], _∷_}
 use lib.Dec.{leb}
 use lib.ListN.{length, take, drop}
 use Rattle.units.specs.declared.Clocks.{Clocks}
-use Rattle.units.specs.declared.Bytes.{Bytes}
 use Rattle.units.specs.declared.Wires.{Wires}
 use Rattle.units.specs.Units.{clocks, perByte, clocksOf, wholeOf}
 use Rattle.wires.specs.Bits.{gather}

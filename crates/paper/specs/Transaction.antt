@@ -1,10 +1,9 @@
 -- A transaction, whole: what comes in, what goes out. Document 01, "Answer numbers" and "Reset and power".
-use Prim.Native.Nat.{ℕ, _+_, _^_}
-use mathlib.Core.Bool.{Bool, true, false, cond, not, _&&_, _||_}
+use Prim.Native.Nat.{ℕ}
+use mathlib.Core.Bool.{Bool, true, false, cond, not, _&&_}
 use mathlib.Core.List.{List, [], _∷_, _++_}
 use lib.Dec.{eqb, ltb, leb}
 use lib.ListN.{length, drop, replicate}
-use Rattle.units.specs.declared.Clocks.{Clocks}
 use Rattle.parts.specs.declared.Part.{Part}
 use Rattle.parts.specs.declared.Part.the-variants.{M, P}
 use Rattle.parts.specs.Parts.{partOf, knownPart, leastOf, mostOf, areaOf}
@@ -19,7 +18,7 @@ use Rattle.values.specs.States.{validOf}
 use Rattle.places.specs.Addresses.{memorySize}
 use Rattle.paper.specs.InForce.{wiresFor, bodyFor}
 use Rattle.paper.specs.Reading.{Parts, partsOf, many, dataBytes}
-use Rattle.paper.specs.Storing.{Lent, Taken, nothingTaken, takeByte, takeAll}
+use Rattle.paper.specs.Storing.{Lent, nothingTaken, takeByte, takeAll}
 use Rattle.paper.specs.Driving.{drivenAt, along}
 use Rattle.paper.specs.Answers.{Facts, judge}
 

@@ -1,7 +1,7 @@
 -- The write latch. Document 01, "Commands of part M", the paragraph "Latch". The write mode that counts is the one before the write. Part P has no
 -- latch.
 use Prim.Native.Nat.{ℕ, _%_}
-use mathlib.Core.Bool.{Bool, true, false, cond, not}
+use mathlib.Core.Bool.{Bool, true, false, cond, not, _&&_}
 use lib.Dec.{eqb}
 use Rattle.parts.specs.declared.Part.{Part}
 use Rattle.parts.specs.declared.Part.the-variants.{M, P}
@@ -34,6 +34,10 @@ kindNeeds cr4 WriteArea = burstNeeds cr4
 abbrev pub latchNeeded : Part → ℕ → Kind → Bool
 latchNeeded M cr4 k = kindNeeds cr4 k
 latchNeeded P cr4 k = false
+
+-- it is needed and down
+unfoldable pub latchMissing : Part → ℕ → Bool → Kind → Bool
+latchMissing p cr4 latch k = latchNeeded p cr4 k && not latch
 
 -- after a burst into memory or area that was stored, or was protected whole: only write mode 0 takes it down
 abbrev pub afterBurst : ℕ → Bool → Bool

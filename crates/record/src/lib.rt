@@ -8,7 +8,7 @@ ghost use Rattle.record.specs.Answers.{answerNumber};
 ghost use Rattle.record.specs.Devices.{modeWires, settingOf};
 ghost use Rattle.record.specs.Fresh.{freshM, freshP};
 ghost use Rattle.record.specs.Changes.{latchTo, armTo, modeTo, sleepTo, toggleTo, resetOf, poweredOf, controlled, writtenTo, burstDone, registerDone, effectOf, settledOf};
-ghost use Rattle.record.specs.Latches.{kindNeeds, latchNeeded, afterBurst, afterRegister};
+ghost use Rattle.record.specs.Latches.{kindNeeds, latchNeeded, latchMissing, afterBurst, afterRegister};
 ghost use Rattle.record.specs.Shows.{withoutLatch, statusShown, shown, shownByte};
 use opcodes::Control;
 use opcodes::Kind;
@@ -425,6 +425,16 @@ pub fn latch_needed(part: Part, cr4: u8, k: Kind) -> bool
         Part::M => kind_needs(cr4, k),
         Part::P => false,
     }
+}
+
+// Whether it needs the latch and the latch is down.
+pub fn latch_missing(part: Part, cr4: u8, latch: bool, k: Kind) -> bool
+    ensures { λ r. ⌜ r ≡ latchMissing part cr4 latch k ⌝ }
+{
+    if latch_needed(part, cr4, k) {
+        return !latch;
+    }
+    false
 }
 
 fn kind_needs(cr4: u8, k: Kind) -> bool

@@ -15,10 +15,10 @@ store-byte-spec =
     (λ c κs. search needs)
     -- returns
     (λ c. rw (← c .before .protected-at .ensures, c .if1 .taken) (held-same (holds (c .before .before .before .before .args .s) (c .before .before .before .before .args .latch) (c .before .before .before .before .args .k)) (takenAs (c .before .before .before .before .args .value) (c .before .before .before .before .args .any) (c .before .before .before .before .args .memory .now) (c .before .before .before .before .args .area .now))))
-    -- is-held-requires
+    -- latch-missing-requires
     (λ c κs. search needs)
     -- returns-2
-    (λ c. rw (← c .before .before .before .protected-at .ensures, c .before .before .if1 .left, ← c .before .is-held .ensures, c .if2 .taken))
+    (λ c. rw (← c .before .before .before .protected-at .ensures, c .before .before .if1 .left, ← c .before .latch-missing .ensures, c .if2 .taken))
     -- put-at-requires
     (λ c κs. search needs)
     -- same-length
@@ -26,4 +26,4 @@ store-byte-spec =
     -- same-length-2
     (λ c. search needs)
     -- returns-3
-    (λ c. rw (← c .before .before .before .before .before .before .before .before .before .before .protected-at .ensures, c .before .before .before .before .before .before .before .before .before .if1 .left, ← c .before .before .before .before .before .before .before .before .is-held .ensures, c .before .before .before .before .before .before .before .if2 .left, ← c .before .before .before .before .put-at .ensures)))
+    (λ c. rw (← c .before .before .before .before .before .before .before .before .before .before .protected-at .ensures, c .before .before .before .before .before .before .before .before .before .if1 .left, ← c .before .before .before .before .before .before .before .before .latch-missing .ensures, c .before .before .before .before .before .before .before .if2 .left, ← c .before .before .before .before .put-at .ensures)))
