@@ -1,7 +1,8 @@
 // The answer of a transaction, judged at its end by the papers' table, and the record that it leaves.
 ghost use mathlib.Core.Path.{_≡_};
 ghost use Prim.Native.Nat.{_≤_};
-ghost use Rattle.paper.specs.Answers.{shortData, longRest, resetting, unarmed, reservedFor, shutData};
+ghost use Rattle.paper.specs.Answers.{shortData, longRest, resetting, unarmed, reservedFor, shutData, firstOf, dataRows, rows};
+ghost use Rattle.judging.specs.Finish.{factsIn, nothingLent, outcomeOf};
 use clocking::Progress;
 use commands::plans::Body;
 use counts::Counts;
@@ -11,6 +12,8 @@ use opcodes::Register;
 use parts::Part;
 use record::Answer;
 use record::Device;
+use record::Setting;
+use record::latch_missing;
 use units::Clocks;
 use units::Wires;
 use values::reserved;
@@ -120,5 +123,81 @@ fn is_shut(b: Body, any: bool) -> bool
         Body::AnyRead => false,
         Body::FixedWrite(_) => false,
         Body::AnyWrite => !any,
+    }
+}
+
+// The rows of the table that look at the data.
+fn judge_data(s: Setting, armed: bool, latch: bool, p: Progress) -> Answer
+    requires { ⌜ s .n ≤ 24 ⌝ }
+    ensures { λ r. ⌜ r ≡ firstOf (dataRows s armed latch (factsIn p nothingLent)) ⌝ }
+{
+    let k = p.kind;
+    let part = s.part;
+    let value = p.value;
+    let counts = p.counts;
+    let clocks = counts.body;
+    let rest = counts.rest;
+    let b = phases::body_for(s, k, p.address);
+    if is_short(b, phases::wires_for(s, k), clocks) {
+        return Answer::Short;
+    }
+    if is_long(b, rest) {
+        return Answer::Long;
+    }
+    if is_unarmed(armed, k) {
+        return Answer::Unarmed;
+    }
+    if latch_missing(part, s.registers.cr4, latch, k) {
+        return Answer::Latch;
+    }
+    if is_reserved(part, k, value) {
+        return Answer::Reserved;
+    }
+    if is_shut(b, p.any) {
+        return Answer::Protected;
+    }
+    Answer::Done
+}
+
+// The rows that are decided before any data, and then those.
+fn judge_in(s: Setting, armed: bool, latch: bool, p: Progress) -> Answer
+    requires { ⌜ s .n ≤ 24 ⌝ }
+    ensures { λ r. ⌜ r ≡ firstOf (rows s armed latch (factsIn p nothingLent)) ⌝ }
+{
+    let k = p.kind;
+    let counts = p.counts;
+    if counts.command.0 < phases::command_clocks(s).0 {
+        return Answer::Short;
+    }
+    if phases::asleep_for(s, k) {
+        return Answer::Asleep;
+    }
+    if phases::is_unknown(k) {
+        return Answer::Unknown;
+    }
+    if counts.address.0 < phases::address_clocks(s, k).0 {
+        return Answer::Short;
+    }
+    if phases::refused_at(s, k, p.address) {
+        return Answer::Address;
+    }
+    judge_data(s, armed, latch, p)
+}
+
+// The end of a transaction: its answer, its counts, and the record that it leaves.
+pub fn finish(d: Device, p: Progress) -> Outcome
+    requires { ⌜ d .n ≤ 24 ⌝ }
+    ensures { λ r. ⌜ r ≡ outcomeOf d p ⌝ }
+{
+    let s = d.setting();
+    let kind = p.kind;
+    let value = p.value;
+    let counts = p.counts;
+    let answer = judge_in(s, d.volatile.armed, d.volatile.latch, p);
+    let device = d.settled(kind, value, answer);
+    Outcome {
+        answer,
+        counts,
+        device,
     }
 }

@@ -20,6 +20,7 @@ use Rattle.parts.specs.declared.Part.{Part}
 use Rattle.record.specs.declared.Answer.{Answer}
 use Rattle.record.specs.declared.Answer.the-variants.{Done, Short, Unknown, Asleep, Address, Latch, Protected, Reserved, Long, Unarmed}
 use Rattle.record.specs.declared.Device.{Device}
+use Rattle.record.specs.declared.Setting.{Setting}
 use Rattle.record.specs.Devices.{settingOf}
 use Rattle.record.specs.Latches.{latchMissing}
 use Rattle.values.specs.Values.{reservedOf}
@@ -116,30 +117,28 @@ firstOf [] = Done
 firstOf (r ∷ rs) = cond (r .0) (r .1) (firstOf rs)
 
 -- the rows of the table that look at the data
-abbrev pub dataRows : Device → Facts → List (Bool × Answer)
-dataRows d f =
-    let s = settingOf d in
+abbrev pub dataRows : Setting → Bool → Bool → Facts → List (Bool × Answer)
+dataRows s armed latch f =
     let k = f .kind in
     let b = bodyFor s k (f .address) in
     (shortData b (wiresFor s k) (f .counts .body), Short)
     ∷ (longRest b (f .counts .rest), Long)
-    ∷ (unarmed (d .volatile .armed) k, Unarmed)
-    ∷ (latchMissing (s .part) (s .registers .cr4) (d .volatile .latch) k, Latch)
+    ∷ (unarmed armed k, Unarmed)
+    ∷ (latchMissing (s .part) (s .registers .cr4) latch k, Latch)
     ∷ (reservedFor (s .part) k (f .taken .value), Reserved)
     ∷ (shutData b (f .taken .any), Protected)
     ∷ []
 
 -- THE TABLE: the rows that are decided before any data, and then those
-abbrev pub rows : Device → Facts → List (Bool × Answer)
-rows d f =
-    let s = settingOf d in
+abbrev pub rows : Setting → Bool → Bool → Facts → List (Bool × Answer)
+rows s armed latch f =
     let k = f .kind in
     (fewer (f .counts .command) (commandClocks s), Short)
     ∷ (asleepFor s k, Asleep)
     ∷ (unknown k, Unknown)
     ∷ (fewer (f .counts .address) (addressClocks s k), Short)
     ∷ (refusedAt s k (f .address), Address)
-    ∷ dataRows d f
+    ∷ dataRows s armed latch f
 
 unfoldable pub judge : Device → Facts → Answer
-judge d f = firstOf (rows d f)
+judge d f = firstOf (rows (settingOf d) (d .volatile .armed) (d .volatile .latch) f)

@@ -1,0 +1,21 @@
+-- `judging::finish` meets its contract: the table and what its answer leaves.
+-- Assumes nothing.
+use Rattle.paper.specs.Answers.{judge}
+use Rattle.judging.specs.Finish.{outcomeOf}
+use borrow.Author.Needs.{needs}
+use Rattle.judging.proofs.finish.Statement.{statement}
+use Rattle.judging.proofs.finish.Tie as tie
+
+pub finish-spec : {M : Type 1} → statement M
+unfolding judge outcomeOf
+finish-spec =
+    tie.close
+    (tie.spec
+    -- setting-requires
+    (λ c κs. search needs)
+    -- judge-in-requires
+    (λ c κs. rw (c .before .before .setting .ensures) (c .before .before .before .pre))
+    -- settled-requires
+    (λ c κs. search needs)
+    -- returns
+    (λ c. rw (c .settled .ensures, c .before .judge-in .ensures, c .before .before .before .before .setting .ensures)))
