@@ -1,17 +1,13 @@
 -- Laws of holding back, and of one clock.
 -- Assumes nothing.
 use mathlib.Core.Path.{_≡_, refl, ap, sym}
-use mathlib.Core.Bool.{Bool, true, false, cond}
+use mathlib.Core.Bool.{Bool, true, false}
 use mathlib.Core.List.{List}
 use Prim.Native.Nat.{ℕ}
 use Rattle.paper.specs.Storing.{Taken}
 use Rattle.record.specs.declared.Setting.{Setting}
 use Rattle.clocking.specs.declared.Phase.{Phase}
 use Rattle.clocking.specs.Machine.{heldBack, Run, stepIn, stepOf}
-
-pub cond-same : {A : Type 0} (b : Bool) (a : A) → cond b a a ≡ a
-cond-same true a = refl
-cond-same false a = refl
 
 -- what stores nothing is the same held back or not
 pub held-same : (hold : Bool) (t : Taken) → t ≡ heldBack hold t t

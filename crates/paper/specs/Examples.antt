@@ -59,9 +59,6 @@ answers r a five =
     eqb (answerNumber (r .answer)) a
     && same (r .counts .command .0 ∷ r .counts .address .0 ∷ r .counts .wait .0 ∷ r .counts .body .0 ∷ r .counts .rest .0 ∷ []) five
 
-abbrev holds : World → ℕ → List ℕ → Bool
-holds r a bs = same (map (λ i. getD (r .lent .memory) i 0) (a ∷ [])) bs
-
 abbrev memoryAt : World → List ℕ → List ℕ
 memoryAt r places = map (λ i. getD (r .lent .memory) i 0) places
 
