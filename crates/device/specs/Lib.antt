@@ -1,1 +1,2 @@
+pub mod Worlds
 pub mod Laws

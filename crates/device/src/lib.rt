@@ -1,9 +1,14 @@
-// The checks before a transaction: sizes, and samples.
+// The checks before a transaction, of sizes and of samples, and the power cycle.
 ghost use mathlib.Core.Path.{_≡_};
-ghost use lib.ListN.{length};
+ghost use mathlib.Core.List.{[]};
+ghost use lib.ListN.{length, replicate};
 ghost use Rattle.bursts.specs.Lends.{lends};
-ghost use Rattle.paper.specs.Transaction.{sizedFor, roomFor, sampled};
+ghost use Rattle.paper.specs.Transaction.{sizedFor, roomFor, sampled, powerOf};
+ghost use Rattle.device.specs.Worlds.{unclockedOf, worldOf};
+use counts::Counts;
+use judging::Outcome;
 use parts::Part;
+use record::Answer;
 use record::Device;
 
 // Whether part and n are in range, and what is lent has the sizes that they give.
@@ -53,4 +58,46 @@ pub fn is_sampled(samples: &[u8]) -> bool
         i += 1;
     }
     true
+}
+
+// An answer without clocks.
+fn unclocked(answer: Answer, device: Device) -> Outcome
+    ensures { λ r. ⌜ r ≡ unclockedOf answer device ⌝ }
+{
+    Outcome {
+        answer,
+        counts: Counts::none(),
+        device,
+    }
+}
+
+// A memory that comes back from a power cycle all 00h.
+fn wipe(memory: &mut [u8])
+    ensures { λ _. ⌜ now (memory .exit) ≡ replicate (length (now (memory .entry))) 0 ⌝ }
+{
+    let mut i = 0;
+    while i < memory.len() {
+        memory[i] = 0;
+        i += 1;
+    }
+}
+
+// A power cycle. The area is only looked at.
+pub fn power_cycle(d: Device, memory: &mut [u8], area: &[u8]) -> Outcome
+    ensures { λ r. ⌜ worldOf r (now (memory .exit)) (now (area .entry)) [] ≡ powerOf d (lends (now (memory .entry)) (now (area .entry))) ⌝ }
+{
+    if !is_sized(d, memory, area) {
+        return unclocked(Answer::Size, d);
+    }
+    if !values::valid(d) {
+        return unclocked(Answer::State, d);
+    }
+    let part = Part::of(d.part);
+    match part {
+        Part::M => unclocked(Answer::Done, d.powered()),
+        Part::P => {
+            wipe(memory);
+            unclocked(Answer::Done, d.powered())
+        }
+    }
 }

@@ -1,0 +1,14 @@
+-- `device::unclocked` meets its contract: no clocks.
+-- Assumes nothing.
+use borrow.Author.Needs.{needs}
+use Rattle.device.proofs.unclocked.Statement.{statement}
+use Rattle.device.proofs.unclocked.Tie as tie
+
+pub unclocked-spec : {M : Type 1} → statement M
+unclocked-spec =
+    tie.close
+    (tie.spec
+    -- none-requires
+    (λ c κs. search needs)
+    -- returns
+    (λ c. rw (c .none .ensures)))
