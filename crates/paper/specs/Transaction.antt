@@ -77,7 +77,7 @@ isDone Reserved = false
 isDone Long = false
 isDone Unarmed = false
 
-abbrev undriven : List ℕ → List ℕ
+abbrev pub undriven : List ℕ → List ℕ
 undriven xs = replicate (length xs) 0
 
 -- what the clocks drive: the data clocks of a read that is done, and nothing else

@@ -1,7 +1,7 @@
 -- Laws of clocks and bytes, for any wires.
 -- Assumes nothing.
 use mathlib.Core.Path.{_≡_, refl, ap}
-use Prim.Native.Nat.{ℕ, _+_, _*_, _<_, _≤_}
+use Prim.Native.Nat.{ℕ, _+_, _*_, _/_, _<_, _≤_}
 use native.Mathlib.Nat.{mul-div-cancel, div-add-mod'}
 use native.Mathlib.Omega.{arith}
 use lib.Dec.{lit<}
@@ -40,3 +40,14 @@ whole-of-clocks w b = ap bytes (mul-div-cancel (b .0) (perByte-pos w))
 -- clocks are those of their whole bytes and the unfinished ones
 pub clocks-split : (w : Wires) (c : Clocks) → clocks (clocksOf w (wholeOf w c) .0 + unfinishedOf w c .0) ≡ c
 clocks-split w c = ap clocks (div-add-mod' (c .0) (perByte w))
+
+-- clocks carry fewer bytes than b just when they are fewer than b takes
+pub whole-lt : (w : Wires) (t b : ℕ) → t < b * perByte w → t / perByte w < b
+whole-lt One t b h = omega arith
+whole-lt Two t b h = omega arith
+whole-lt Four t b h = omega arith
+
+pub lt-whole : (w : Wires) (t b : ℕ) → t / perByte w < b → t < b * perByte w
+lt-whole One t b h = omega arith
+lt-whole Two t b h = omega arith
+lt-whole Four t b h = omega arith

@@ -11,7 +11,7 @@ use lib.Arith.{digits-lt}
 use Rattle.units.specs.declared.Wires.{Wires}
 use Rattle.units.specs.declared.Clocks.{Clocks}
 use Rattle.units.specs.Units.{wiresOf, perByte}
-use Rattle.units.specs.Laws.{perByte-pos}
+use Rattle.units.specs.Laws.{bits-of-byte, perByte-pos}
 use Rattle.wires.specs.Bits.{bitsOf, shiftOf, gatherFrom, gather, above, spread, groupOf}
 
 -- the product that a shift makes before the register cuts it fits the machine's word
@@ -69,6 +69,26 @@ module _ (w : Wires) where
       let e : k * suc n ≡ k + k * n = rw mul-suc (omega arith) in
       gather-spread-from n (i + k) (shiftOf w number a) v (shift-lt i number a h (q .0)) (q .1)
       ∙ rw (shift-is i number a h (q .0), mod-mod, e, mod-pow-add v k (k * n), pow-add, add-mul, mul-assoc, add-assoc)
+
+  -- a number has no more bits than its clocks brought, and those gathered before
+  gather-lt-from : (i number : ℕ) (xs : List ℕ) → number < 2 ^ i → i + wiresOf w * length xs ≤ 24 → gatherFrom w number xs < 2 ^ (i + wiresOf w * length xs)
+  unfolding gatherFrom
+  gather-lt-from i number [] h r = rw (mul-zero, add-zero) h
+  gather-lt-from i number (x ∷ xs) h r =
+      let k = wiresOf w in
+      let q = room i (length xs) r in
+      let e : i + k * suc (length xs) ≡ i + k + k * length xs = rw mul-suc (omega arith) in
+      rw e (gather-lt-from (i + k) (shiftOf w number x) xs (shift-lt i number x h (q .0)) (q .1))
+
+  pub gather-lt : (xs : List ℕ) → wiresOf w * length xs ≤ 24 → gather w xs < 2 ^ (wiresOf w * length xs)
+  gather-lt xs r = rw (← zero-add (wiresOf w * length xs)) (gather-lt-from 0 0 xs (pow-pos 0) (rw zero-add r))
+
+  -- the clocks of one byte spell a byte, and fewer of them no more
+  pub gather-byte : (xs : List ℕ) → length xs ≤ perByte w → gather w xs % 2 ^ 8 ≡ gather w xs
+  gather-byte xs h =
+      let b : wiresOf w * length xs ≤ wiresOf w * perByte w = mul-le-mul-left (wiresOf w) h in
+      let r : wiresOf w * length xs ≤ 8 = rw bits-of-byte at b in
+      mod-eq-of-lt (lt-of-lt-of-le (gather-lt xs (omega arith)) (pow-mono {i = wiresOf w * length xs} {j = 8} r))
 
   -- what was gathered before stands above what the clocks bring
   gather-high : (i number : ℕ) (xs : List ℕ) → number < 2 ^ i → i + wiresOf w * length xs ≤ 24 → gatherFrom w number xs / 2 ^ (wiresOf w * length xs) ≡ number

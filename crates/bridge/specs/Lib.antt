@@ -1,0 +1,5 @@
+pub mod Stage
+pub mod Gathering
+pub mod Phases
+pub mod Silence
+pub mod Bridge
