@@ -1,6 +1,6 @@
 // The five clock counts that every answer carries, in the papers' order.
 ghost use mathlib.Core.Path.{_≡_};
-ghost use Prim.Native.Nat.{_<_};
+ghost use Prim.Native.Nat.{_<_, _≤_};
 ghost use Rattle.counts.specs.Counts.{noCounts, total, commandTick, addressTick, waitTick, bodyTick, restTick};
 use units::Clocks;
 
@@ -25,6 +25,14 @@ impl Counts {
             body: Clocks(0),
             rest: Clocks(0),
         }
+    }
+
+    // All clocks together.
+    pub fn total(self) -> Clocks
+        requires { ⌜ total self .0 ≤ 65535 ⌝ }
+        ensures { λ r. ⌜ r ≡ total self ⌝ }
+    {
+        Clocks(self.command.0 + self.address.0 + self.wait.0 + self.body.0 + self.rest.0)
     }
 
     pub fn command_tick(mut self) -> Self

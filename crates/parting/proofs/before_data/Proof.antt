@@ -1,0 +1,39 @@
+-- `parting::before_data` meets its contract: three parts, one after the other.
+-- Assumes nothing.
+use mathlib.Core.Path.{refl, _∙_}
+use mathlib.Core.List.{[]}
+use Rattle.feeding.specs.Views.{runAs}
+use Rattle.clocking.specs.Machine.{beginOf}
+use Rattle.parting.specs.Laws.{go-start, go-on, go-advancing}
+use borrow.Author.Needs.{needs}
+use Rattle.parting.proofs.before_data.Statement.{statement}
+use Rattle.parting.proofs.before_data.Tie as tie
+
+pub before-data-spec : {M : Type 1} → statement M
+before-data-spec =
+    tie.close
+    (tie.spec
+    -- setting-requires
+    (λ c κs. search needs)
+    -- begin-requires
+    (λ c κs. search needs)
+    -- command-clocks-requires
+    (λ c κs. search needs)
+    -- advance-requires
+    (λ c κs. rw (c .before .before .before .before .begin .ensures) (go-advancing (c .before .before .before .before .before .before .before .before .before .before .pre) (go-start {r = runAs beginOf [] []} refl)))
+    -- address-clocks-requires
+    (λ c κs. search needs)
+    -- advance-requires-2
+    (λ c κs. go-advancing (c .before .before .before .before .before .before .before .before .before .before .before .before .before .before .before .before .before .before .before .before .before .pre) (go-on (go-start refl) (rw (c .before .before .before .before .before .before .before .before .before .before .before .before .before .before .before .begin .ensures) at (c .before .before .before .before .before .before .before .before .before .before .advance .ensures))))
+    -- wait-clocks-requires
+    (λ c κs. rw (c .before .before .before .before .before .before .before .before .before .before .before .before .before .before .before .before .before .before .before .before .before .before .before .setting .ensures) (c .before .before .before .before .before .before .before .before .before .before .before .before .before .before .before .before .before .before .before .before .before .before .before .before .before .before .before .before .pre .reach))
+    -- advance-requires-3
+    (λ c κs. go-advancing (c .before .before .before .before .before .before .before .before .before .before .before .before .before .before .before .before .before .before .before .before .before .before .before .before .before .before .before .before .before .before .before .before .pre) (go-on (go-on (go-start refl) (rw (c .before .before .before .before .before .before .before .before .before .before .before .before .before .before .before .before .before .before .before .before .before .before .before .before .before .before .begin .ensures) at (c .before .before .before .before .before .before .before .before .before .before .before .before .before .before .before .before .before .before .before .before .before .advance .ensures))) (c .before .before .before .before .before .before .before .before .before .before .advance2 .ensures)))
+    -- same-length
+    (λ c. c .before .before .before .before .before .before .advance3 .kept .1 .1 .0 ∙ c .before .before .before .before .before .before .before .before .before .before .before .before .before .before .before .before .before .advance2 .kept .1 .1 .0 ∙ c .before .before .before .before .before .before .before .before .before .before .before .before .before .before .before .before .before .before .before .before .before .before .before .before .before .before .before .before .advance .kept .1 .1 .0)
+    -- same-length-2
+    (λ c. c .before .before .before .before .before .before .advance3 .kept .1 .1 .1 .0 ∙ c .before .before .before .before .before .before .before .before .before .before .before .before .before .before .before .before .before .advance2 .kept .1 .1 .1 .0 ∙ c .before .before .before .before .before .before .before .before .before .before .before .before .before .before .before .before .before .before .before .before .before .before .before .before .before .before .before .before .advance .kept .1 .1 .1 .0)
+    -- same-length-3
+    (λ c. c .before .before .before .before .before .before .advance3 .kept .1 .1 .1 .1 .1 .0 ∙ c .before .before .before .before .before .before .before .before .before .before .before .before .before .before .before .before .before .advance2 .kept .1 .1 .1 .1 .1 .0 ∙ c .before .before .before .before .before .before .before .before .before .before .before .before .before .before .before .before .before .before .before .before .before .before .before .before .before .before .before .before .advance .kept .1 .1 .1 .1 .1 .0)
+    -- returns
+    (λ c. go-on (go-on (go-on (go-start refl) (rw (c .before .before .before .before .before .before .before .before .before .before .before .before .before .before .before .before .before .before .before .before .before .before .before .before .before .before .before .before .before .before .before .before .before .begin .ensures) at (c .before .before .before .before .before .before .before .before .before .before .before .before .before .before .before .before .before .before .before .before .before .before .before .before .before .before .before .before .advance .ensures))) (c .before .before .before .before .before .before .before .before .before .before .before .before .before .before .before .before .before .advance2 .ensures)) (c .before .before .before .before .before .before .advance3 .ensures)))

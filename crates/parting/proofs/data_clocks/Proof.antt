@@ -1,0 +1,34 @@
+-- `parting::data_clocks` meets its contract: an arm for each kind of data.
+-- Assumes nothing.
+use borrow.Author.Needs.{needs}
+use Rattle.parting.proofs.data_clocks.Statement.{statement}
+use Rattle.parting.proofs.data_clocks.Tie as tie
+
+pub data-clocks-spec : {M : Type 1} → statement M
+data-clocks-spec =
+    tie.close
+    (tie.spec
+    -- enum-told
+    (λ c. search needs)
+    -- enum-known-b
+    (λ c. search needs)
+    -- fixed-clocks-requires
+    (λ c κs. search needs)
+    -- enum-told-2
+    (λ c. search needs)
+    -- enum-known-b-2
+    (λ c. search needs)
+    -- fixed-clocks-requires-2
+    (λ c κs. search needs)
+    -- enum-told-3
+    (λ c. search needs)
+    -- returns
+    (λ c. rw (c .enum-told .given .1))
+    -- returns-2
+    (λ c. rw (c .before .before .b .given .1, c .fixed-clocks .ensures))
+    -- returns-3
+    (λ c. search needs)
+    -- returns-4
+    (λ c. rw (c .before .before .b2 .given .1, c .fixed-clocks2 .ensures))
+    -- returns-5
+    (λ c. search needs))
