@@ -1,10 +1,11 @@
-// The checks before a transaction, of sizes and of samples, and the power cycle.
+// The device: a transaction and a power cycle, with the checks before them. Nothing is asked of the caller.
 ghost use mathlib.Core.Path.{_≡_};
 ghost use mathlib.Core.List.{[]};
 ghost use lib.ListN.{length, replicate};
 ghost use Rattle.bursts.specs.Lends.{lends};
-ghost use Rattle.paper.specs.Transaction.{sizedFor, roomFor, sampled, powerOf};
-ghost use Rattle.device.specs.Worlds.{unclockedOf, worldOf};
+ghost use Rattle.paper.specs.Transaction.{sizedFor, roomFor, sampled, transactOf, powerOf};
+ghost use Rattle.parting.specs.Parting.{worldOf};
+ghost use Rattle.device.specs.Worlds.{unclockedOf};
 use counts::Counts;
 use judging::Outcome;
 use parts::Part;
@@ -100,4 +101,29 @@ pub fn power_cycle(d: Device, memory: &mut [u8], area: &[u8]) -> Outcome
             unclocked(Answer::Done, d.powered())
         }
     }
+}
+
+// A transaction: the clock samples of one stretch of chip select, and what they leave.
+pub fn transact(
+    d: Device,
+    memory: &mut [u8],
+    area: &mut [u8],
+    samples: &[u8],
+    output: &mut [u8],
+) -> Outcome
+    ensures { λ r. ⌜ worldOf r (now (memory .exit)) (now (area .exit)) (now (output .exit)) ≡ transactOf d (lends (now (memory .entry)) (now (area .entry))) (now (samples .entry)) (now (output .entry)) ⌝ }
+{
+    if !is_sized(d, memory, area) {
+        return unclocked(Answer::Size, d);
+    }
+    if !has_room(samples, output) {
+        return unclocked(Answer::Size, d);
+    }
+    if !is_sampled(samples) {
+        return unclocked(Answer::Sample, d);
+    }
+    if !values::valid(d) {
+        return unclocked(Answer::State, d);
+    }
+    parting::clocked(d, memory, area, samples, output)
 }
