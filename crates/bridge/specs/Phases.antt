@@ -36,7 +36,8 @@ use Rattle.clocking.specs.declared.Phase.{Phase}
 use Rattle.clocking.specs.declared.Phase.the-variants.{Command, Address, Wait, Data, Rest}
 use Rattle.clocking.specs.declared.Progress.{Progress}
 use Rattle.clocking.specs.Machine.{at, beginOf, fullAt, reached, toData, toWait, toAddress, commandStep, addressStep, waitStep, heldBack, holds, byteIn, Held, lastAt, held, Run, ran, dataStep, stepOf, driveOf, runOf, outsOf}
-use Rattle.bridge.specs.Stage.{Seen, seen, behind, carried, stage, cut-first, cut-body, along-zero}
+use Rattle.theorems.specs.Driven.{along-zero}
+use Rattle.bridge.specs.Stage.{Seen, seen, behind, carried, stage, cut-first, cut-body}
 
 abbrev none : Clocks
 none = clocks 0

@@ -35,8 +35,8 @@ use Rattle.paper.specs.Driving.{drivenAt, along}
 use Rattle.paper.specs.Answers.{fewer, shortData, longRest, resetting, unarmed, reservedFor, shutData, rows, judge}
 use Rattle.paper.specs.Transaction.{factsOf, isDone, undriven}
 use Rattle.clocking.specs.Machine.{heldBack, holds}
+use Rattle.theorems.specs.Driven.{along-zero}
 use Rattle.theorems.specs.ExactOrder.{by-rows, clear-rows}
-use Rattle.bridge.specs.Stage.{along-zero}
 
 -- ---- bytes held back: only memory and area differ, and they are as they were
 abbrev with : Lent → Taken → Taken
@@ -101,15 +101,15 @@ still f h [] i t = refl
 still f h (x ∷ bs) i t = still f h bs (i + 1) (f (record { 0 = i }) x t) ∙ h (record { 0 = i }) x t
 
 -- ---- rows that say nothing of a command with this data: a read needs no latch, and neither it nor a burst is a reset or a register write
-abbrev Apart : Part → ℕ → List ℕ → Kind → Type 0
-Apart p cr4 v k = (resetting k ≡ false) × (reservedFor p k v ≡ false)
+abbrev Apart : Part → List ℕ → Kind → Type 0
+Apart p v k = (resetting k ≡ false) × (reservedFor p k v ≡ false)
 
 abbrev Quiet : Body → Part → ℕ → List ℕ → Kind → Type 0
 Quiet Nothing p cr4 v k = Unit {0}
-Quiet (FixedRead m) p cr4 v k = Apart p cr4 v k × (kindNeeds cr4 k ≡ false)
-Quiet AnyRead p cr4 v k = Apart p cr4 v k × (kindNeeds cr4 k ≡ false)
+Quiet (FixedRead m) p cr4 v k = Apart p v k × (kindNeeds cr4 k ≡ false)
+Quiet AnyRead p cr4 v k = Apart p v k × (kindNeeds cr4 k ≡ false)
 Quiet (FixedWrite m) p cr4 v k = Unit {0}
-Quiet AnyWrite p cr4 v k = Apart p cr4 v k
+Quiet AnyWrite p cr4 v k = Apart p v k
 
 module _ (p : Part) (cr4 : ℕ) (v : List ℕ) (a : ℕ) where
   quiet : (k : Kind) → Quiet (bodyOf p k a) p cr4 v k
@@ -270,7 +270,7 @@ module _ (d : Device) (l : Lent) (p : Parts)
   -- ---- by what the data is
   reads : (b : Body) → body ≡ b
       → shortData b w (many (p .dataPart)) ≡ false → longRest b (many (p .restPart)) ≡ false → shutData b (takenBy body .any) ≡ false
-      → Apart (s .part) (s .registers .cr4) (takenBy body .value) (p .kind) × (kindNeeds (s .registers .cr4) (p .kind) ≡ false)
+      → Apart (s .part) (takenBy body .value) (p .kind) × (kindNeeds (s .registers .cr4) (p .kind) ≡ false)
       → isDone (judge d (factsOf d l p)) ≡ false → Silent b
   reads b is short long shut q =
       each b is
@@ -281,7 +281,7 @@ module _ (d : Device) (l : Lent) (p : Parts)
       (q .0 .1)
       (never b is (shutData body (takenBy body .any)) (ap (λ (c : Body). shutData c (takenBy body .any)) is ∙ shut))
 
-  burst : body ≡ AnyWrite → Apart (s .part) (s .registers .cr4) (takenBy body .value) (p .kind) → isDone (judge d (factsOf d l p)) ≡ false → Silent AnyWrite
+  burst : body ≡ AnyWrite → Apart (s .part) (takenBy body .value) (p .kind) → isDone (judge d (factsOf d l p)) ≡ false → Silent AnyWrite
   burst is q =
       each AnyWrite is
       (λ e. let h : length (p .dataPart) / perByte w < 1 = ltb-true (length (p .dataPart) / perByte w) 1 (sym (ap (λ (c : Body). shortData c w (many (p .dataPart))) is) ∙ e) in kept (few AnyWrite (omega arith)))

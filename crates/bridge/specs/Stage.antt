@@ -6,7 +6,7 @@ use native.Mathlib.Nat.{add-zero, zero-add}
 use native.Mathlib.Omega.{arith}
 use mathlib.Core.Bool.{Bool, true, false, cond}
 use mathlib.Core.List.{List, [], _∷_, _++_, append-nil}
-use lib.ListN.{length, take, replicate, length-take, take-append-drop, drop-of-length-le}
+use lib.ListN.{length, take, length-take, take-append-drop, drop-of-length-le}
 use borrow.Author.Tests.{lt-leb, leb-false}
 use Rattle.basis.specs.Truth.{untrue}
 use Rattle.units.specs.declared.Clocks.{Clocks}
@@ -130,9 +130,3 @@ cut-body (FixedRead b) w zs = cut-bytes w b zs
 cut-body AnyRead w zs = cut-all zs
 cut-body (FixedWrite b) w zs = let c = cut-bytes w b zs in record { whole = c .whole; busy = c .busy; ends = c .ends }
 cut-body AnyWrite w zs = cut-all zs
-
--- what drives nothing
-pub along-zero : (xs : List ℕ) (t : ℕ) → along (λ c. 0) t xs ≡ replicate (length xs) 0
-unfolding along
-along-zero [] t = refl
-along-zero (x ∷ xs) t = ap (λ (l : List ℕ). 0 ∷ l) (along-zero xs (t + 1))
