@@ -16,7 +16,7 @@ use Rattle.record.specs.declared.Device.{Device}
 use Rattle.record.specs.Answers.{answerNumber}
 use Rattle.record.specs.Fresh.{freshM, freshP}
 use Rattle.record.specs.Latches.{latchMissing}
-use Rattle.record.specs.Changes.{modeTo, modeRegisterTo, statusTo}
+use Rattle.record.specs.Changes.{modeTo, modeRegisterTo, statusTo, configurationsTo}
 use Rattle.values.specs.Values.{statusAllowed, cr3Allowed, cr4Allowed, configurationsAllowed, modeRegisterAllowed}
 use Rattle.values.specs.States.{modeAllowed, zeros, registersM, registersP, volatileM, volatileP, identityM, identityP, validOf}
 use Rattle.places.specs.Places.{readSpan, writeSpan, placeIn}
@@ -97,3 +97,16 @@ examples =
 pub examples-hold : T (all examples)
 unfolding examples shiftOf gatherFrom spread groupOf entryOf mappedOf statusAllowed cr3Allowed cr4Allowed configurationsAllowed modeRegisterAllowed modeAllowed zeros registersM registersP volatileM volatileP identityM identityP validOf readSpan writeSpan placeIn shutMemory sectionShut protectedOf areaProtectedOf asleepFor refusedAt stopped decided commandClocks wiresFor addressClocks waitClocks bodyFor kindRead addressRead partsOf bytesIn dataBytes protectedAt putAt takeAll byteRead levelAt along judge unarmed latchMissing sizedFor roomFor sampled factsOf drivenOf over clockedOf transactOf
 examples-hold = tt
+
+-- Where (g) and (h) leave a way out: a burst that comes out of the protected bytes goes on, and part M's groups are for reads and not for writes.
+unfoldable pub further : List Bool
+further =
+    (let r = sent (statusTo 0x04 m) (onM (blank 1024)) (byte One 0x02 ++ (address One 0x3FE ++ (byte One 1 ++ (byte One 2 ++ (byte One 3 ++ byte One 4))))) in
+    answers r 0 (8 ∷ 24 ∷ 0 ∷ 32 ∷ 0 ∷ []) && same (memoryAt r (0x3FE ∷ 0x3FF ∷ 0x000 ∷ 0x001 ∷ [])) (0 ∷ 0 ∷ 3 ∷ 4 ∷ []))
+    ∷ (let r = sent (configurationsTo (0x00 ∷ 0x00 ∷ 0x10 ∷ 0x05 ∷ []) m) (onM (blank 1024)) (byte One 0x02 ++ (address One 0x00F ++ (byte One 1 ++ byte One 2))) in
+    answers r 0 (8 ∷ 24 ∷ 0 ∷ 16 ∷ 0 ∷ []) && same (memoryAt r (0x00F ∷ 0x010 ∷ 0x000 ∷ [])) (1 ∷ 2 ∷ 0 ∷ []))
+    ∷ []
+
+pub further-hold : T (all further)
+unfolding further shiftOf gatherFrom spread groupOf entryOf mappedOf statusAllowed cr3Allowed cr4Allowed configurationsAllowed modeRegisterAllowed modeAllowed zeros registersM registersP volatileM volatileP identityM identityP validOf readSpan writeSpan placeIn shutMemory sectionShut protectedOf areaProtectedOf asleepFor refusedAt stopped decided commandClocks wiresFor addressClocks waitClocks bodyFor kindRead addressRead partsOf bytesIn dataBytes protectedAt putAt takeAll byteRead levelAt along judge unarmed latchMissing sizedFor roomFor sampled factsOf drivenOf over clockedOf transactOf
+further-hold = tt
