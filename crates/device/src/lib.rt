@@ -62,7 +62,7 @@ pub fn is_sampled(samples: &[u8]) -> bool
 }
 
 // An answer without clocks.
-fn unclocked(answer: Answer, device: Device) -> Outcome
+pub fn unclocked(answer: Answer, device: Device) -> Outcome
     ensures { λ r. ⌜ r ≡ unclockedOf answer device ⌝ }
 {
     Outcome {
@@ -73,7 +73,7 @@ fn unclocked(answer: Answer, device: Device) -> Outcome
 }
 
 // A memory that comes back from a power cycle all 00h.
-fn wipe(memory: &mut [u8])
+pub fn wipe(memory: &mut [u8])
     ensures { λ _. ⌜ now (memory .exit) ≡ replicate (length (now (memory .entry))) 0 ⌝ }
 {
     let mut i = 0;

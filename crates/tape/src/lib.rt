@@ -1,0 +1,205 @@
+// The bench tape: what stands at a place of it, and what a record does to the chip in the socket.
+//
+// A record is a payload length and a kind, two bytes each with the low byte first, and then the payload.
+ghost use mathlib.Core.Path.{_≡_};
+ghost use Prim.Native.Nat.{_+_, _<_};
+ghost use lib.ListN.{length};
+ghost use Rattle.bursts.specs.Lends.{lends};
+ghost use Rattle.parting.specs.Parting.{worldOf};
+ghost use Rattle.tape.specs.Tape.{wordAt, freshEntry, entryFor, nothingBut, foundOf};
+ghost use Rattle.tape.specs.Play.{isGood, memoryOf, socketOf, freshFor, playOf, playedAt};
+use judging::Outcome;
+use parts::Part;
+use record::Answer;
+use record::Device;
+
+// What a record asks for. A bad one is cut short, has a payload that its kind does not take, or has no kind
+// that there is.
+pub enum Entry {
+    End,
+    Bad,
+    Transaction,
+    PowerCycle,
+    Fresh { part: u8, n: u8 },
+}
+
+// What stands at a place: the record, where its payload begins, and where the next record does. Both are 0
+// where there is no whole record.
+pub struct Found {
+    pub entry: Entry,
+    pub from: usize,
+    pub next: usize,
+}
+
+fn nothing(entry: Entry) -> Found
+    ensures { λ r. ⌜ r ≡ nothingBut entry ⌝ }
+{
+    Found {
+        entry,
+        from: 0,
+        next: 0,
+    }
+}
+
+// Two bytes, the low one first.
+fn word_at(tape: &[u8], at: usize) -> usize
+    requires { ⌜ at + 1 < length (now tape) ⌝ }
+    ensures { λ r. ⌜ r ≡ wordAt (now (tape .entry)) at ⌝ }
+{
+    tape[at] as usize + 256 * (tape[at + 1] as usize)
+}
+
+// A fresh chip of a part and a size that the tape has.
+fn fresh_entry(part: u8, n: u8) -> Entry
+    ensures { λ r. ⌜ r ≡ freshEntry part n ⌝ }
+{
+    if !Part::is_known(part) {
+        return Entry::Bad;
+    }
+    if n < 10 {
+        return Entry::Bad;
+    }
+    if 15 < n {
+        return Entry::Bad;
+    }
+    Entry::Fresh { part, n }
+}
+
+// What a kind and a payload ask for.
+fn entry_for(kind: usize, payload: &[u8]) -> Entry
+    ensures { λ r. ⌜ r ≡ entryFor kind (now (payload .entry)) ⌝ }
+{
+    if kind == 1 {
+        if 4096 < payload.len() {
+            return Entry::Bad;
+        }
+        return Entry::Transaction;
+    }
+    if kind == 2 {
+        if payload.len() != 0 {
+            return Entry::Bad;
+        }
+        return Entry::PowerCycle;
+    }
+    if kind != 3 {
+        return Entry::Bad;
+    }
+    if payload.len() != 2 {
+        return Entry::Bad;
+    }
+    fresh_entry(payload[0], payload[1])
+}
+
+// THE CURSOR: what stands at a place of the tape.
+pub fn entry_at(tape: &[u8], at: usize) -> Found
+    ensures { λ r. ⌜ r ≡ foundOf (now (tape .entry)) at ⌝ }
+{
+    let n = tape.len();
+    if n <= at {
+        return nothing(Entry::End);
+    }
+    if n - at < 4 {
+        return nothing(Entry::Bad);
+    }
+    let long = word_at(tape, at);
+    let kind = word_at(tape, at + 2);
+    if n - at - 4 < long {
+        return nothing(Entry::Bad);
+    }
+    let from = at + 4;
+    let next = from + long;
+    let entry = entry_for(kind, &tape[from..next]);
+    Found { entry, from, next }
+}
+
+// The bytes that a chip has.
+pub struct Socket {
+    pub memory: usize,
+    pub area: usize,
+}
+
+// Whether a record can be played: transactions and power cycles want a chip in the socket.
+pub fn is_good(chip: bool, e: Entry) -> bool
+    ensures { λ r. ⌜ r ≡ isGood chip e ⌝ }
+{
+    match e {
+        Entry::End => false,
+        Entry::Bad => false,
+        Entry::Transaction => chip,
+        Entry::PowerCycle => chip,
+        Entry::Fresh { part: _, n: _ } => true,
+    }
+}
+
+// The bytes of memory, none where no chip is so large, and of area.
+fn memory_of(n: u8) -> usize
+    ensures { λ r. ⌜ r ≡ memoryOf n ⌝ }
+{
+    if 24 < n {
+        return 0;
+    }
+    places::memory_size(n).0
+}
+
+pub fn socket_of(part: u8, n: u8) -> Socket
+    ensures { λ r. ⌜ r ≡ socketOf part n ⌝ }
+{
+    let p = Part::of(part);
+    let edge = p.area();
+    Socket {
+        memory: memory_of(n),
+        area: edge.0,
+    }
+}
+
+// A fresh chip whose identity and numbers are 0.
+fn fresh_for(p: Part, n: u8) -> Device
+    ensures { λ r. ⌜ r ≡ freshFor p n ⌝ }
+{
+    match p {
+        Part::M => Device::fresh_m(n, [0; 4], [0; 8]),
+        Part::P => Device::fresh_p(n, [0; 8]),
+    }
+}
+
+// What a record does to the chip.
+pub fn play(
+    e: Entry,
+    d: Device,
+    memory: &mut [u8],
+    area: &mut [u8],
+    samples: &[u8],
+    output: &mut [u8],
+) -> Outcome
+    ensures { λ r. ⌜ worldOf r (now (memory .exit)) (now (area .exit)) (now (output .exit)) ≡ playOf e d (lends (now (memory .entry)) (now (area .entry))) (now (samples .entry)) (now (output .entry)) ⌝ }
+{
+    match e {
+        Entry::End => device::unclocked(Answer::Size, d),
+        Entry::Bad => device::unclocked(Answer::Size, d),
+        Entry::Transaction => device::transact(d, memory, area, samples, output),
+        Entry::PowerCycle => device::power_cycle(d, memory, area),
+        Entry::Fresh { part, n } => {
+            device::wipe(memory);
+            device::wipe(area);
+            device::unclocked(Answer::Done, fresh_for(Part::of(part), n))
+        }
+    }
+}
+
+// The record at a place of the tape, played.
+pub fn play_at(
+    tape: &[u8],
+    at: usize,
+    d: Device,
+    memory: &mut [u8],
+    area: &mut [u8],
+    output: &mut [u8],
+) -> Outcome
+    ensures { λ r. ⌜ worldOf r (now (memory .exit)) (now (area .exit)) (now (output .exit)) ≡ playedAt (now (tape .entry)) at d (lends (now (memory .entry)) (now (area .entry))) (now (output .entry)) ⌝ }
+{
+    let f = entry_at(tape, at);
+    let entry = f.entry;
+    let from = f.from;
+    let next = f.next;
+    play(entry, d, memory, area, &tape[from..next], output)
+}

@@ -1,0 +1,23 @@
+-- `text::put` meets its contract: the two ways are the definition's.
+-- Assumes nothing.
+use borrow.Author.Tests.{lt-ltb, le-ltb}
+use Rattle.text.specs.Page.{putOf}
+use borrow.Author.Needs.{needs}
+use Rattle.text.proofs.put.Statement.{statement}
+use Rattle.text.proofs.put.Tie as tie
+
+pub put-spec : {M : Type 1} → statement M
+unfolding putOf
+put-spec =
+    tie.close
+    (tie.spec
+    -- slice-write-text
+    (λ c. search needs)
+    -- add-result
+    (λ c. search needs)
+    -- same-length
+    (λ c. search needs)
+    -- returns
+    (λ c. rw (lt-ltb _ _ (c .if1 .taken)))
+    -- returns-2
+    (λ c. rw (le-ltb _ _ (c .if1 .left))))

@@ -1,0 +1,59 @@
+// Text gathered in a lent buffer before it is written out: bytes are put at a place, and the place behind them
+// comes back. What finds no room is left out, and the place stays.
+ghost use mathlib.Core.Path.{_≡_};
+ghost use Rattle.text.specs.Page.{page, putOf, putsOf};
+
+// One byte.
+pub fn put(text: &mut [u8], at: usize, b: u8) -> usize
+    ensures { λ r. ⌜ page r (now (text .exit)) ≡ putOf b (page at (now (text .entry))) ⌝ }
+{
+    if at < text.len() {
+        text[at] = b;
+        return at + 1;
+    }
+    at
+}
+
+// Bytes, one after the other.
+pub fn put_all(text: &mut [u8], at: usize, bytes: &[u8]) -> usize
+    ensures { λ r. ⌜ page r (now (text .exit)) ≡ putsOf (now (bytes .entry)) (page at (now (text .entry))) ⌝ }
+{
+    let mut to = at;
+    let mut i = 0;
+    while i < bytes.len() {
+        let b = bytes[i];
+        to = put(text, to, b);
+        i += 1;
+    }
+    to
+}
+
+// A number in decimal.
+pub fn put_decimal(text: &mut [u8], at: usize, v: u64) -> usize {
+    let mut digits = [0u8; 20];
+    let n = io::decimal(v, &mut digits);
+    put_all(text, at, &digits[..n])
+}
+
+// A number in hexadecimal, in upper case, with so many digits at least.
+pub fn put_hex(text: &mut [u8], at: usize, v: u64, width: usize) -> usize {
+    let mut digits = [0u8; 16];
+    let n = io::hex(v, width, &mut digits);
+    put_all(text, at, &digits[..n])
+}
+
+// Writes what stands before a place to standard output. The next text begins at the front.
+pub fn flush(text: &[u8], at: usize) -> usize {
+    if at <= text.len() {
+        io::write_all(1, &text[..at]);
+    }
+    0
+}
+
+// The same once half of the buffer is full.
+pub fn flush_full(text: &[u8], at: usize) -> usize {
+    if text.len() / 2 < at {
+        return flush(text, at);
+    }
+    at
+}
