@@ -1,5 +1,5 @@
 -- A page: text in a buffer, and the place where the next byte goes.
-use Prim.Native.Nat.{ℕ, _+_}
+use Prim.Native.Nat.{ℕ, _+_, _-_}
 use mathlib.Core.Bool.{cond}
 use mathlib.Core.List.{List, [], _∷_}
 use lib.Dec.{ltb}
@@ -20,3 +20,7 @@ putOf b p = cond (ltb (p .at) (length (p .text))) (page (p .at + 1) (set (p .tex
 unfoldable pub putsOf : List ℕ → Page → Page
 putsOf [] p = p
 putsOf (b ∷ bs) p = putsOf bs (putOf b p)
+
+-- a letter in upper case
+unfoldable pub upperOf : ℕ → ℕ
+upperOf b = cond (ltb b 97) b (cond (ltb 122 b) b (b - 32))

@@ -1,0 +1,139 @@
+// What a record left, in few characters: the chip, digests, and the driven samples.
+use lines::column;
+use record::Device;
+use text::put;
+use text::put_all;
+use text::put_bytes;
+use text::put_hex;
+
+// A bit as a digit.
+fn flag(text: &mut [u8], at: usize, on: bool) -> usize {
+    if on {
+        return put(text, at, b'1');
+    }
+    put(text, at, b'0')
+}
+
+// The latch, the arming, sleep and the toggle.
+fn flags(text: &mut [u8], at: usize, d: Device) -> usize {
+    let v = d.volatile;
+    let a = put(text, at, b' ');
+    let b = flag(text, a, v.latch);
+    let c = flag(text, b, v.armed);
+    let e = flag(text, c, v.asleep);
+    flag(text, e, v.toggle)
+}
+
+// A byte as two digits.
+fn pair(text: &mut [u8], at: usize, v: u8) -> usize {
+    put_hex(text, at, v as u64, 2)
+}
+
+// Status, area protection, configurations 1 to 4 and the mode register.
+fn registers(text: &mut [u8], at: usize, d: Device) -> usize {
+    let r = d.registers;
+    let a = put(text, at, b' ');
+    let b = pair(text, a, r.status);
+    let c = pair(text, b, r.protection);
+    let e = pair(text, c, r.cr1);
+    let f = pair(text, e, r.cr2);
+    let g = pair(text, f, r.cr3);
+    let h = pair(text, g, r.cr4);
+    pair(text, h, r.mr0)
+}
+
+// The serial number, byte 0 first.
+fn serial(text: &mut [u8], at: usize, d: Device) -> usize {
+    let i = d.identity;
+    let number = i.serial;
+    let a = put(text, at, b' ');
+    put_bytes(text, a, &number)
+}
+
+// The letter of the part.
+fn part(text: &mut [u8], at: usize, d: Device) -> usize {
+    let a = put(text, at, b' ');
+    if d.part == 1 {
+        return put(text, a, b'M');
+    }
+    put(text, a, b'P')
+}
+
+// The chip: its part, n and mode, its flags and registers, its serial number.
+pub fn chip(text: &mut [u8], at: usize, d: Device) -> usize {
+    let v = d.volatile;
+    let a = part(text, at, d);
+    let b = column(text, a, d.n as u64);
+    let c = column(text, b, v.mode as u64);
+    let e = flags(text, c, d);
+    let f = registers(text, e, d);
+    serial(text, f, d)
+}
+
+// A number in which order and length of the bytes both count.
+fn digest(bytes: &[u8]) -> u64 {
+    let mut sum: u64 = 1;
+    let mut i = 0;
+    while i < bytes.len() {
+        sum = (sum % 4294967291 * 65599 + bytes[i] as u64 + 1) % 4294967291;
+        i += 1;
+    }
+    sum
+}
+
+// The digest of bytes, behind a space.
+pub fn digest_column(text: &mut [u8], at: usize, bytes: &[u8]) -> usize {
+    let a = put(text, at, b' ');
+    put_hex(text, a, digest(bytes), 8)
+}
+
+// The place of the first byte that is not 0, or the end.
+fn first_driven(out: &[u8]) -> usize {
+    let mut i = 0;
+    while i < out.len() {
+        if out[i] != 0 {
+            return i;
+        }
+        i += 1;
+    }
+    i
+}
+
+// The place behind the last byte that is not 0, or the front.
+fn last_driven(out: &[u8]) -> usize {
+    let mut i = out.len();
+    while i > 0 {
+        if out[i - 1] != 0 {
+            return i;
+        }
+        i -= 1;
+    }
+    0
+}
+
+// The clocks before the first driven one, and the output from there to the last driven one.
+fn driven(text: &mut [u8], at: usize, out: &[u8]) -> usize {
+    let from = first_driven(out);
+    let to = last_driven(out);
+    if to <= from {
+        return put_all(text, at, b" - -");
+    }
+    let a = column(text, at, from as u64);
+    let b = put(text, a, b' ');
+    if out.len() < to {
+        return b;
+    }
+    put_bytes(text, b, &out[from..to])
+}
+
+// What a transaction drove: nothing where it was refused.
+pub fn output_columns(text: &mut [u8], at: usize, answer: u8, long: usize, out: &[u8]) -> usize {
+    let a = digest_column(text, at, out);
+    if answer == 1 || answer == 2 || answer == 3 {
+        return put_all(text, a, b" - -");
+    }
+    if out.len() < long {
+        return a;
+    }
+    driven(text, a, &out[..long])
+}

@@ -1,0 +1,28 @@
+-- `compare::stores` meets its contract: the chip's parts lie within what is lent.
+-- Assumes nothing.
+use mathlib.Core.Path.{sym}
+use lib.Seq.{length-take-le}
+use borrow.Author.Needs.{needs}
+use Rattle.compare.proofs.stores.Statement.{statement}
+use Rattle.compare.proofs.stores.Tie as tie
+
+pub stores-spec : {M : Type 1} → statement M
+stores-spec =
+    tie.close
+    (tie.spec
+    -- returns
+    (λ c. search needs)
+    -- returns-2
+    (λ c. search needs)
+    -- slice-aggregate-digest-column
+    (λ c. sym (length-take-le _ _ (c .before .before .before .before .if1 .left)))
+    -- digest-column-requires
+    (λ c κs. search needs)
+    -- slice-aggregate-digest-column-2
+    (λ c. sym (length-take-le _ _ (c .before .before .before .before .before .before .before .if2 .left)))
+    -- digest-column-requires-2
+    (λ c κs. search needs)
+    -- same-length
+    (λ c. search needs)
+    -- returns-3
+    (λ c. search needs))

@@ -1,0 +1,316 @@
+// Many tapes in one input, each behind its length, and for each record one line with all that it left: the record,
+// digests of memory, area and output, and the driven samples. The second program prints the same.
+use compact::chip;
+use compact::digest_column;
+use compact::output_columns;
+use judging::Outcome;
+use lines::column;
+use lines::five;
+use lines::last_line;
+use lines::verdict;
+use session::Session;
+use tape::Entry;
+use text::put;
+use text::put_all;
+use text::put_decimal;
+
+struct State {
+    session: Session,
+    place: usize,
+    go: bool,
+}
+
+fn output_of(text: &mut [u8], at: usize, e: Entry, answer: u8, long: usize, out: &[u8]) -> usize {
+    match e {
+        Entry::End => at,
+        Entry::Bad => at,
+        Entry::Transaction => output_columns(text, at, answer, long, out),
+        Entry::PowerCycle => put_all(text, at, b" - - -"),
+        Entry::Fresh { part: _, n: _ } => put_all(text, at, b" - - -"),
+    }
+}
+
+fn answer_of(r: Outcome) -> u8 {
+    let answer = r.answer;
+    record::answer_number(answer)
+}
+
+fn line(text: &mut [u8], at: usize, k: u64, r: Outcome) -> usize {
+    let counts = r.counts;
+    let d = r.device;
+    let a = put_decimal(text, at, k);
+    let b = column(text, a, answer_of(r) as u64);
+    let c = five(text, b, counts);
+    chip(text, c, d)
+}
+
+// Digests of the chip's part of memory and area.
+fn stores(text: &mut [u8], at: usize, s: Session, memory: &[u8], area: &[u8]) -> usize {
+    if memory.len() < s.memory {
+        return at;
+    }
+    if area.len() < s.area {
+        return at;
+    }
+    let a = digest_column(text, at, &memory[..s.memory]);
+    digest_column(text, a, &area[..s.area])
+}
+
+// An output buffer that shows what was written to it.
+fn fill(out: &mut [u8]) {
+    let mut i = 0;
+    while i < out.len() {
+        out[i] = 0xA5;
+        i += 1;
+    }
+}
+
+// The samples of the record at a place.
+fn samples_at(tape: &[u8], at: usize) -> usize {
+    let f = reader::found_at(tape, at);
+    if f.next < f.from {
+        return 0;
+    }
+    f.next - f.from
+}
+
+fn record_line(
+    text: &mut [u8],
+    at: usize,
+    k: u64,
+    t: session::Turn,
+    long: usize,
+    memory: &[u8],
+    area: &[u8],
+    out: &[u8],
+) -> usize {
+    let e = t.entry;
+    let r = t.outcome;
+    let next = t.session;
+    let a = line(text, at, k, r);
+    let b = stores(text, a, next, memory, area);
+    let c = output_of(text, b, e, answer_of(r), long, out);
+    put(text, c, b'\n')
+}
+
+// Record k, with so many before it; its output is as long as it is to be lent.
+fn played(
+    st: State,
+    before: u64,
+    k: u64,
+    long: usize,
+    tape: &[u8],
+    memory: &mut [u8],
+    area: &mut [u8],
+    output: &mut [u8],
+    text: &mut [u8],
+) -> State {
+    let s = st.session;
+    fill(output);
+    let t = session::advance(s, tape, memory, area, output);
+    let e = t.entry;
+    let next = t.session;
+    if !t.good {
+        return stopped(next, verdict(text, st.place, e, before, s.at));
+    }
+    let place = record_line(text, st.place, k, t, long, memory, area, output);
+    State {
+        session: next,
+        place: text::flush_full(text, place),
+        go: true,
+    }
+}
+
+// The same with an output three bytes longer than the samples.
+fn turn(
+    st: State,
+    before: u64,
+    k: u64,
+    tape: &[u8],
+    memory: &mut [u8],
+    area: &mut [u8],
+    output: &mut [u8],
+    text: &mut [u8],
+) -> State {
+    let s = st.session;
+    let long = samples_at(tape, s.at);
+    if 4096 < long {
+        return stopped(s, verdict_bad(text, st.place, s.at));
+    }
+    let room = long + 3;
+    if output.len() < room {
+        return stopped(s, st.place);
+    }
+    played(
+        st,
+        before,
+        k,
+        long,
+        tape,
+        memory,
+        area,
+        &mut output[..room],
+        text,
+    )
+}
+
+// A payload longer than any transaction has is a bad record.
+fn verdict_bad(text: &mut [u8], at: usize, offset: usize) -> usize {
+    last_line(text, at, b"bad", offset as u64)
+}
+
+fn stopped(session: Session, place: usize) -> State {
+    State {
+        session,
+        place,
+        go: false,
+    }
+}
+
+fn started(place: usize) -> State {
+    State {
+        session: session::start(),
+        place,
+        go: true,
+    }
+}
+
+fn run(
+    tape: &[u8],
+    memory: &mut [u8],
+    area: &mut [u8],
+    output: &mut [u8],
+    text: &mut [u8],
+    place: usize,
+) -> usize {
+    let mut st = started(place);
+    let mut k = 0;
+    while k < 16385 && st.go {
+        let before = k;
+        k += 1;
+        st = turn(st, before, k, tape, memory, area, output, text);
+    }
+    text::flush_full(text, st.place)
+}
+
+fn tape_line(text: &mut [u8], at: usize, k: u64, long: usize) -> usize {
+    let a = put_all(text, at, b"tape");
+    let b = column(text, a, k);
+    let c = column(text, b, long as u64);
+    put(text, c, b'\n')
+}
+
+// Where a tape of the input ends: its number of bytes, or that the input ends before it.
+struct Taken {
+    whole: bool,
+    last: bool,
+    long: usize,
+}
+
+fn took(whole: bool, last: bool, long: usize) -> Taken {
+    Taken { whole, last, long }
+}
+
+// Four bytes, the lowest first.
+fn length_of(four: &[u8]) -> usize {
+    if four.len() < 4 {
+        return 0;
+    }
+    let low = four[0] as usize + 256 * (four[1] as usize);
+    let high = four[2] as usize + 256 * (four[3] as usize);
+    low + 65536 * high
+}
+
+// Passes over a byte of the input, and tells whether it was there.
+fn skip_one() -> bool {
+    let mut one = [0u8; 1];
+    io::read_full(0, &mut one) != 0
+}
+
+fn skipped(count: usize) -> bool {
+    let mut left = count;
+    while left > 0 {
+        if !skip_one() {
+            return false;
+        }
+        left -= 1;
+    }
+    true
+}
+
+fn take_tape(tape: &mut [u8]) -> Taken {
+    let mut four = [0u8; 4];
+    let n = io::read_full(0, &mut four);
+    if n == 0 {
+        return took(true, true, 0);
+    }
+    if n < 4 {
+        return took(false, true, 0);
+    }
+    let long = length_of(&four);
+    if tape.len() < long {
+        return took(skipped(long), false, long);
+    }
+    let got = io::read_full(0, &mut tape[..long]);
+    took(got == long, false, long)
+}
+
+struct Bundle {
+    place: usize,
+    go: bool,
+}
+
+// Tape k.
+fn tape_turn(
+    b: Bundle,
+    k: u64,
+    tape: &mut [u8],
+    memory: &mut [u8],
+    area: &mut [u8],
+    output: &mut [u8],
+    text: &mut [u8],
+) -> Bundle {
+    let t = take_tape(tape);
+    if !t.whole {
+        return Bundle {
+            place: put_all(text, b.place, b"cut\n"),
+            go: false,
+        };
+    }
+    if t.last {
+        return Bundle {
+            place: b.place,
+            go: false,
+        };
+    }
+    let place = tape_line(text, b.place, k, t.long);
+    if tape.len() < t.long {
+        return Bundle {
+            place: last_line(text, place, b"bad", 0),
+            go: true,
+        };
+    }
+    Bundle {
+        place: run(&tape[..t.long], memory, area, output, text, place),
+        go: true,
+    }
+}
+
+fn all(tape: &mut [u8], memory: &mut [u8], area: &mut [u8], output: &mut [u8], text: &mut [u8]) {
+    let mut b = Bundle { place: 0, go: true };
+    let mut k = 0;
+    while k < 1000000 && b.go {
+        k += 1;
+        b = tape_turn(b, k, tape, memory, area, output, text);
+    }
+    text::flush(text, b.place);
+}
+
+fn main() {
+    let mut tape = io::large_buffer();
+    let mut memory = [0u8; 32768];
+    let mut area = [0u8; 256];
+    let mut output = [0u8; 4099];
+    let mut text = io::large_buffer();
+    all(&mut tape, &mut memory, &mut area, &mut output, &mut text);
+}

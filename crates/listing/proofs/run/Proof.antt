@@ -1,0 +1,88 @@
+-- `listing::run` is safe and ends: the turns are counted, and all that is lent keeps its length.
+-- Assumes nothing.
+use mathlib.Core.Path.{_≡_, refl, _∙_}
+use Prim.Native.Nat.{ℕ, _-_}
+use native.Mathlib.Omega.{arith}
+use borrow.Author.Needs.{needs}
+use mathlib.Core.List.{List}
+use lib.ListN.{length}
+use Rattle.listing.proofs.run.Statement.{statement}
+use Rattle.listing.proofs.run.Tie as tie
+
+record Kept (m₀ a₀ o₀ n₀ b₀ p₀ m a o n b p : List ℕ) : Type 0 where
+  pub memory : length m ≡ length m₀
+  pub area : length a ≡ length a₀
+  pub output : length o ≡ length o₀
+  pub memory0 : length n ≡ length n₀
+  pub area0 : length b ≡ length b₀
+  pub page : length p ≡ length p₀
+
+abbrev Inv-loop : tie.InvT-loop
+Inv-loop tape memory₀ area₀ output₀ memory0₀ area0₀ page₀ to s₀ k₀ memory area output memory0 area0 page s k =
+    Kept memory₀ area₀ output₀ memory0₀ area0₀ page₀ memory area output memory0 area0 page
+
+abbrev μ-loop : tie.MeasureT-loop
+μ-loop tape memory₀ area₀ output₀ memory0₀ area0₀ page₀ to s₀ k₀ memory area output memory0 area0 page s k =
+    16385 - k
+
+start-requires : tie.Need-start-requires Inv-loop μ-loop
+start-requires c κs = search needs
+
+loop-holds : tie.Need-loop-holds Inv-loop μ-loop
+loop-holds c = record { memory = refl; area = refl; output = refl; memory0 = refl; area0 = refl; page = refl }
+
+turn-requires : tie.Need-turn-requires Inv-loop μ-loop
+turn-requires c κs = search needs
+
+add-k : tie.Need-add-k Inv-loop μ-loop
+add-k c = omega (arith, c .before .before .before .before .before .before .before .before .before .before .before .before .before .before .before .before .before .before .before .loop-test .taken)
+
+loop-less : tie.Need-loop-less Inv-loop μ-loop
+loop-less c = omega (arith, c .before .before .before .before .before .before .before .before .before .before .before .before .before .before .before .before .before .before .before .loop-test .taken)
+
+loop-again : tie.Need-loop-again Inv-loop μ-loop
+loop-again c =
+    let t = c .before .before .before .before .before .before .before .before .before .before .before .before .turn .kept in
+    let f = c .before .before .before .before .before .before .before .before .before .before .before .before .before .before .before .before .before .before .before .before .loop .inv in
+    record { memory = t .1 .1 .1 .0 ∙ f .memory; area = t .1 .1 .1 .1 .0 ∙ f .area; output = t .1 .1 .1 .1 .1 .0 ∙ f .output; memory0 = t .1 .1 .1 .1 .1 .1 .0 ∙ f .memory0; area0 = t .1 .1 .1 .1 .1 .1 .1 .0 ∙ f .area0; page = t .1 .1 .1 .1 .1 .1 .1 .1 .0 ∙ f .page }
+
+same-length : tie.Need-same-length Inv-loop μ-loop
+same-length c = c .before .loop .inv .memory
+
+same-length-2 : tie.Need-same-length-2 Inv-loop μ-loop
+same-length-2 c = c .before .loop .inv .area
+
+same-length-3 : tie.Need-same-length-3 Inv-loop μ-loop
+same-length-3 c = c .before .loop .inv .output
+
+same-length-4 : tie.Need-same-length-4 Inv-loop μ-loop
+same-length-4 c = c .before .loop .inv .memory0
+
+same-length-5 : tie.Need-same-length-5 Inv-loop μ-loop
+same-length-5 c = c .before .loop .inv .area0
+
+same-length-6 : tie.Need-same-length-6 Inv-loop μ-loop
+same-length-6 c = c .before .loop .inv .page
+
+returns : tie.Need-returns Inv-loop μ-loop
+returns c = search needs
+
+pub run-spec : {M : Type 1} → statement M
+run-spec =
+    tie.close
+    (tie.spec
+    Inv-loop
+    μ-loop
+    start-requires
+    loop-holds
+    turn-requires
+    add-k
+    loop-less
+    loop-again
+    same-length
+    same-length-2
+    same-length-3
+    same-length-4
+    same-length-5
+    same-length-6
+    returns)

@@ -1,0 +1,102 @@
+// The end of the list. The tape says that a record is bad and not why, so its bytes are looked at once more.
+use list_rows::over;
+use list_rows::put_bytes;
+use list_views::byte_at;
+use list_views::sum;
+use tape::Entry;
+use text::put_all;
+use text::put_decimal;
+use units::Bytes;
+
+// Two bytes, the low one first.
+fn word_at(tape: &[u8], at: usize) -> u64 {
+    let low = byte_at(tape, at);
+    let high = byte_at(tape, sum(at, 1, tape.len()));
+    low as u64 + 256 * (high as u64)
+}
+
+// A record of which not all bytes are there.
+fn is_cut(tape: &[u8], at: usize) -> bool {
+    let left = over(tape.len(), at);
+    if left < 4 {
+        return true;
+    }
+    ((left - 4) as u64) < word_at(tape, at)
+}
+
+fn put_cut(page: &mut [u8], at: usize, tape: &[u8], offset: usize) -> usize {
+    let a = put_all(page, at, b"the record is cut short, the tape ends after ");
+    let b = put_bytes(page, a, Bytes(over(tape.len(), offset)));
+    put_all(page, b, b" of it.\n")
+}
+
+// A payload that its kind does not take, or a kind that there is not.
+fn put_wrong(page: &mut [u8], at: usize, kind: u64) -> usize {
+    match kind {
+        1 => put_all(
+            page,
+            at,
+            b"the payload is wrong, a transaction has at most 4096 samples.\n",
+        ),
+        2 => put_all(page, at, b"the payload is wrong, a power cycle has none.\n"),
+        3 => put_all(
+            page,
+            at,
+            b"the payload is wrong, a fresh chip has a part, 1 or 2, and n, 10 to 15.\n",
+        ),
+        _ => put_all(page, at, b"the kind is unknown, there are 1, 2 and 3.\n"),
+    }
+}
+
+fn put_bad(page: &mut [u8], at: usize, tape: &[u8], offset: usize) -> usize {
+    if is_cut(tape, offset) {
+        return put_cut(page, at, tape, offset);
+    }
+    put_wrong(page, at, word_at(tape, sum(offset, 2, tape.len())))
+}
+
+// Why a record is bad.
+fn put_why(page: &mut [u8], at: usize, e: Entry, tape: &[u8], offset: usize) -> usize {
+    match e {
+        Entry::End => at,
+        Entry::Bad => put_bad(page, at, tape, offset),
+        Entry::Transaction => put_all(
+            page,
+            at,
+            b"a transaction, and no chip is in the socket yet.\n",
+        ),
+        Entry::PowerCycle => put_all(
+            page,
+            at,
+            b"a power cycle, and no chip is in the socket yet.\n",
+        ),
+        Entry::Fresh { part: _, n: _ } => at,
+    }
+}
+
+fn put_stop(page: &mut [u8], at: usize, e: Entry, tape: &[u8], offset: usize) -> usize {
+    let a = put_all(page, at, b"\nbad record at offset ");
+    let b = put_decimal(page, a, offset as u64);
+    let c = put_all(page, b, b": ");
+    put_why(page, c, e, tape, offset)
+}
+
+fn put_end(page: &mut [u8], at: usize, k: u64) -> usize {
+    let a = put_all(page, at, b"\nend ");
+    let b = put_decimal(page, a, k);
+    if k == 1 {
+        return put_all(page, b, b" record\n");
+    }
+    put_all(page, b, b" records\n")
+}
+
+// The last lines, after `k` records: the end of the tape, or the record at an offset that is bad.
+pub fn put_last(page: &mut [u8], at: usize, k: u64, e: Entry, tape: &[u8], offset: usize) -> usize {
+    match e {
+        Entry::End => put_end(page, at, k),
+        Entry::Bad => put_stop(page, at, e, tape, offset),
+        Entry::Transaction => put_stop(page, at, e, tape, offset),
+        Entry::PowerCycle => put_stop(page, at, e, tape, offset),
+        Entry::Fresh { part: _, n: _ } => put_stop(page, at, e, tape, offset),
+    }
+}

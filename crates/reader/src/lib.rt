@@ -1,0 +1,45 @@
+// A reader over a lent tape: it holds the tape and its place. The work is done by `tape::entry_at`, which takes a
+// plain slice and a place.
+ghost use mathlib.Core.Path.{_≡_};
+ghost use Rattle.tape.specs.Tape.{foundOf};
+use tape::Found;
+
+pub struct Reader<'a> {
+    pub tape: &'a [u8],
+    pub at: usize,
+}
+
+// A reader at a place of a tape.
+pub fn opened<'a>(tape: &'a [u8], at: usize) -> Reader<'a>
+    ensures { λ r. ⌜ (r .tape ≡ tape .entry) × (r .at ≡ at) ⌝ }
+{
+    Reader { tape, at }
+}
+
+// Where it stands.
+pub fn place<'a>(r: Reader<'a>) -> usize
+    ensures { λ n. ⌜ n ≡ r .entry .at ⌝ }
+{
+    r.at
+}
+
+// The same tape at another place.
+pub fn moved<'a>(r: Reader<'a>, at: usize) -> Reader<'a>
+    ensures { λ q. ⌜ (q .tape ≡ r .entry .tape) × (q .at ≡ at) ⌝ }
+{
+    Reader { tape: r.tape, at }
+}
+
+// What stands at its place.
+pub fn found<'a>(r: Reader<'a>) -> Found
+    ensures { λ f. ⌜ f ≡ foundOf (now (r .entry .tape)) (r .entry .at) ⌝ }
+{
+    tape::entry_at(r.tape, r.at)
+}
+
+// What a reader finds at a place of a plain tape. Its callers need know nothing of readers.
+pub fn found_at(tape: &[u8], at: usize) -> Found
+    ensures { λ f. ⌜ f ≡ foundOf (now (tape .entry)) at ⌝ }
+{
+    found(opened(tape, at))
+}

@@ -1,0 +1,60 @@
+-- `text::put_upper` meets its contract. The invariant: what is left of the bytes, put from here, comes to the whole.
+-- Assumes nothing.
+use Prim.Native.Nat.{_-_}
+use native.Mathlib.Omega.{arith}
+use borrow.Author.Needs.{needs}
+use mathlib.Core.List.{map}
+use lib.ListN.{length}
+use Rattle.text.specs.Page.{page, upperOf}
+use Rattle.text.specs.Laws.{Putting, put-start, upper-turn, upper-end}
+use Rattle.text.proofs.put_upper.Statement.{statement}
+use Rattle.text.proofs.put_upper.Tie as tie
+
+abbrev Inv-loop : tie.InvT-loop
+Inv-loop text₀ at bytes to₀ i₀ text to i = Putting (map upperOf bytes) (page to₀ text₀) (page to text) i
+
+abbrev μ-loop : tie.MeasureT-loop
+μ-loop text₀ at bytes to₀ i₀ text to i = length bytes - i
+
+loop-holds : tie.Need-loop-holds Inv-loop μ-loop
+loop-holds c = put-start _ _
+
+shared-slice-read-b : tie.Need-shared-slice-read-b Inv-loop μ-loop
+shared-slice-read-b c = omega arith
+
+upper-requires : tie.Need-upper-requires Inv-loop μ-loop
+upper-requires c κs = search needs
+
+put-requires : tie.Need-put-requires Inv-loop μ-loop
+put-requires c κs = search needs
+
+add-i : tie.Need-add-i Inv-loop μ-loop
+add-i c = omega (arith, c .before .before .before .before .before .before .loop-test .taken)
+
+loop-less : tie.Need-loop-less Inv-loop μ-loop
+loop-less c = omega (arith, c .before .before .before .before .before .before .loop-test .taken)
+
+loop-again : tie.Need-loop-again Inv-loop μ-loop
+loop-again c = upper-turn (c .before .before .before .before .before .before .before .before .before .before .args .bytes .now) (c .before .before .before .before .before .before .before .loop .inv) (c .before .before .before .before .before .before .loop-test .taken) (c .before .before .before .upper .ensures) (c .before .before .put .ensures) (c .before .before .put .kept .0)
+
+same-length : tie.Need-same-length Inv-loop μ-loop
+same-length c = c .before .loop .inv .long
+
+returns : tie.Need-returns Inv-loop μ-loop
+returns c = upper-end (c .before .before .before .before .args .bytes .now) (c .before .loop .inv) (c .loop-test .left)
+
+pub put-upper-spec : {M : Type 1} → statement M
+put-upper-spec =
+    tie.close
+    (tie.spec
+    Inv-loop
+    μ-loop
+    loop-holds
+    shared-slice-read-b
+    upper-requires
+    put-requires
+    add-i
+    loop-less
+    loop-again
+    same-length
+    returns)
