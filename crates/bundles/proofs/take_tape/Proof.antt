@@ -1,10 +1,10 @@
--- `compare::take_tape` meets its contract: the tape's part lies within the buffer.
+-- `bundles::take_tape` meets its contract: the tape's part lies within the buffer.
 -- Assumes nothing.
 use mathlib.Core.Path.{sym}
 use lib.Seq.{length-take-le}
 use borrow.Author.Needs.{needs}
-use Rattle.compare.proofs.take_tape.Statement.{statement}
-use Rattle.compare.proofs.take_tape.Tie as tie
+use Rattle.bundles.proofs.take_tape.Statement.{statement}
+use Rattle.bundles.proofs.take_tape.Tie as tie
 
 pub take-tape-spec : {M : Type 1} → statement M
 take-tape-spec =

@@ -1,4 +1,4 @@
--- `bench::run` meets its contract. The invariant: the buffers keep their lengths; the turns are counted.
+-- `playing::run` meets its contract. The invariant: the buffers keep their lengths; the turns are counted.
 -- Assumes nothing.
 use mathlib.Core.Path.{_≡_, refl, _∙_}
 use Prim.Native.Nat.{ℕ, _-_}
@@ -6,8 +6,8 @@ use native.Mathlib.Omega.{arith}
 use mathlib.Core.List.{List}
 use borrow.Author.Needs.{needs}
 use lib.ListN.{length}
-use Rattle.bench.proofs.run.Statement.{statement}
-use Rattle.bench.proofs.run.Tie as tie
+use Rattle.playing.proofs.run.Statement.{statement}
+use Rattle.playing.proofs.run.Tie as tie
 
 -- the buffers keep their lengths
 record Same (m₀ a₀ o₀ t₀ m a o t : List ℕ) : Type 0 where

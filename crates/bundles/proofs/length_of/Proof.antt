@@ -1,9 +1,9 @@
--- `compare::length_of` meets its contract: four bytes fit the machine's word.
+-- `bundles::length_of` meets its contract: four bytes fit the machine's word.
 -- Assumes nothing.
 use native.Mathlib.Omega.{arith}
 use borrow.Author.Needs.{needs}
-use Rattle.compare.proofs.length_of.Statement.{statement}
-use Rattle.compare.proofs.length_of.Tie as tie
+use Rattle.bundles.proofs.length_of.Statement.{statement}
+use Rattle.bundles.proofs.length_of.Tie as tie
 
 pub length-of-spec : {M : Type 1} → statement M
 length-of-spec =

@@ -1,9 +1,9 @@
--- `compare::skipped` meets its contract: the bytes that are left are counted.
+-- `bundles::skipped` meets its contract: the bytes that are left are counted.
 -- Assumes nothing.
 use native.Mathlib.Omega.{arith}
 use borrow.Author.Needs.{needs}
-use Rattle.compare.proofs.skipped.Statement.{statement}
-use Rattle.compare.proofs.skipped.Tie as tie
+use Rattle.bundles.proofs.skipped.Statement.{statement}
+use Rattle.bundles.proofs.skipped.Tie as tie
 
 abbrev Inv-loop : tie.InvT-loop
 Inv-loop count left₀ left = Unit {0}

@@ -1,0 +1,59 @@
+// Many tapes in one input, each behind its length in four bytes.
+
+// Where a tape of the input ends: its number of bytes, or that the input ends before it.
+pub struct Taken {
+    pub whole: bool,
+    pub last: bool,
+    pub long: usize,
+}
+
+// A tape that was taken, or not.
+fn took(whole: bool, last: bool, long: usize) -> Taken {
+    Taken { whole, last, long }
+}
+
+// Four bytes, the lowest first.
+fn length_of(four: &[u8]) -> usize {
+    if four.len() < 4 {
+        return 0;
+    }
+    let low = four[0] as usize + 256 * (four[1] as usize);
+    let high = four[2] as usize + 256 * (four[3] as usize);
+    low + 65536 * high
+}
+
+// Passes over a byte of the input, and tells whether it was there.
+fn skip_one() -> bool {
+    let mut one = [0u8; 1];
+    io::read_full(0, &mut one) != 0
+}
+
+// The same of so many bytes.
+fn skipped(count: usize) -> bool {
+    let mut left = count;
+    while left > 0 {
+        if !skip_one() {
+            return false;
+        }
+        left -= 1;
+    }
+    true
+}
+
+// Takes the next tape of standard input into a buffer. A tape too long for it is passed over.
+pub fn take_tape(tape: &mut [u8]) -> Taken {
+    let mut four = [0u8; 4];
+    let n = io::read_full(0, &mut four);
+    if n == 0 {
+        return took(true, true, 0);
+    }
+    if n < 4 {
+        return took(false, true, 0);
+    }
+    let long = length_of(&four);
+    if tape.len() < long {
+        return took(skipped(long), false, long);
+    }
+    let got = io::read_full(0, &mut tape[..long]);
+    took(got == long, false, long)
+}
