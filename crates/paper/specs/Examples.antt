@@ -1,5 +1,5 @@
--- Document 01's bench examples, one table under one computed proof over the definition of a transaction: (b) to (l). Each row sends samples to a fresh chip, or
--- one with the registers that the example names, and looks at what comes back.
+-- Document 01's bench examples (a) to (l), one table under one computed proof over the definitions. (a) has the host build a command; every other row sends samples to a
+-- fresh chip, or one with the registers that the example names, and looks at what comes back.
 use Prim.Native.Nat.{ℕ, _*_}
 use mathlib.Core.Bool.{Bool, _&&_}
 use mathlib.Core.List.{List, [], _∷_, _++_, map}
@@ -8,7 +8,7 @@ use lib.ListN.{length, getD, drop, replicate, set}
 use Rattle.basis.specs.Examples.{all, same}
 use Rattle.units.specs.declared.Wires.{Wires}
 use Rattle.units.specs.declared.Wires.the-variants.{One, Two, Four}
-use Rattle.units.specs.Units.{perByte}
+use Rattle.units.specs.Units.{bytes, perByte}
 use Rattle.wires.specs.Bits.{shiftOf, gatherFrom, spread, groupOf}
 use Rattle.opcodes.specs.Kinds.{entryOf}
 use Rattle.commands.specs.Registers.{mappedOf}
@@ -26,6 +26,7 @@ use Rattle.paper.specs.Reading.{kindRead, addressRead, partsOf, bytesIn,
 use Rattle.paper.specs.Storing.{Lent, protectedAt, putAt, takeAll}
 use Rattle.paper.specs.Driving.{byteRead, levelAt, along}
 use Rattle.paper.specs.Answers.{judge, unarmed}
+use Rattle.paper.specs.Building.{Order, Told, kindAsked, beyond, overlong, spreadAll, builtOf, buildOf}
 use Rattle.paper.specs.Transaction.{World, sizedFor, roomFor, sampled, factsOf, drivenOf, over, clockedOf, transactOf}
 
 -- chips of 1,024 bytes
@@ -62,10 +63,21 @@ answers r a five =
 abbrev memoryAt : World → List ℕ → List ℕ
 memoryAt r places = map (λ i. getD (r .lent .memory) i 0) places
 
+-- what the host builds for a command without address and data on part M
+abbrev plain : ℕ → ℕ → Told
+plain opcode mode =
+    let o : Order = record { part = 1; opcode = opcode; mode = mode; address = 0; cr2 = 0; written = []; wanted = bytes 0 } in
+    buildOf o (replicate 8 0xA5)
+
 unfoldable pub examples : List Bool
 examples =
+    -- (a) 06 on two wires and on four; the room past the samples is kept
+    (let t = plain 0x06 2 in
+    eqb (answerNumber (t .answer)) 0 && (eqb (t .number) 4 && same (t .buffer) (0x00 ∷ 0x00 ∷ 0x01 ∷ 0x02 ∷ replicate 4 0xA5)))
+    ∷ (let t = plain 0x06 4 in
+    eqb (answerNumber (t .answer)) 0 && (eqb (t .number) 2 && same (t .buffer) (0x00 ∷ 0x06 ∷ replicate 6 0xA5)))
     -- (b) P, 0B, mode 4, one byte A5h
-    (let r = sent (modeTo 4 p) (onP (set (blank 1024) 0x12 0xA5)) (byte Four 0x0B ++ (address Four 0x12 ++ blank 6)) in
+    ∷ (let r = sent (modeTo 4 p) (onP (set (blank 1024) 0x12 0xA5)) (byte Four 0x0B ++ (address Four 0x12 ++ blank 6)) in
     answers r 0 (2 ∷ 6 ∷ 4 ∷ 2 ∷ 0 ∷ []) && same (drop 12 (r .output)) (0xFA ∷ 0xF5 ∷ []))
     -- (c) P, EB, mode 1, one byte
     ∷ answers (sent p (onP (blank 1024)) (byte One 0xEB ++ (address Four 0 ++ blank 8))) 0 (8 ∷ 6 ∷ 6 ∷ 2 ∷ 0 ∷ [])
@@ -95,7 +107,7 @@ examples =
     ∷ []
 
 pub examples-hold : T (all examples)
-unfolding examples shiftOf gatherFrom spread groupOf entryOf mappedOf statusAllowed cr3Allowed cr4Allowed configurationsAllowed modeRegisterAllowed modeAllowed zeros registersM registersP volatileM volatileP identityM identityP validOf readSpan writeSpan placeIn shutMemory sectionShut protectedOf areaProtectedOf asleepFor refusedAt stopped decided commandClocks wiresFor addressClocks waitClocks bodyFor kindRead addressRead partsOf bytesIn dataBytes protectedAt putAt takeAll byteRead levelAt along judge unarmed latchMissing sizedFor roomFor sampled factsOf drivenOf over clockedOf transactOf
+unfolding examples kindAsked beyond overlong spreadAll builtOf buildOf shiftOf gatherFrom spread groupOf entryOf mappedOf statusAllowed cr3Allowed cr4Allowed configurationsAllowed modeRegisterAllowed modeAllowed zeros registersM registersP volatileM volatileP identityM identityP validOf readSpan writeSpan placeIn shutMemory sectionShut protectedOf areaProtectedOf asleepFor refusedAt stopped decided commandClocks wiresFor addressClocks waitClocks bodyFor kindRead addressRead partsOf bytesIn dataBytes protectedAt putAt takeAll byteRead levelAt along judge unarmed latchMissing sizedFor roomFor sampled factsOf drivenOf over clockedOf transactOf
 examples-hold = tt
 
 -- Where (g) and (h) leave a way out: a burst that comes out of the protected bytes goes on, and part M's groups are for reads and not for writes.

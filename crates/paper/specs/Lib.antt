@@ -4,4 +4,6 @@ pub mod Storing
 pub mod Driving
 pub mod Answers
 pub mod Transaction
+pub mod Building
+pub mod Collecting
 pub mod Examples

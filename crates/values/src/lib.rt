@@ -104,7 +104,7 @@ fn all_zero(a: [u8; 8], from: usize) -> bool
 }
 
 // The bus modes of each part.
-fn mode_allowed(part: Part, mode: u8) -> bool
+pub fn mode_allowed(part: Part, mode: u8) -> bool
     ensures { λ r. ⌜ r ≡ modeAllowed part mode ⌝ }
 {
     match mode {

@@ -1,0 +1,18 @@
+-- `orders::body_asked` meets its contract: the plan's body, but for 65.
+-- Assumes nothing.
+use borrow.Author.Needs.{needs}
+use Rattle.orders.proofs.body_asked.Statement.{statement}
+use Rattle.orders.proofs.body_asked.Tie as tie
+
+pub body-asked-spec : {M : Type 1} → statement M
+body-asked-spec =
+    tie.close
+    (tie.spec
+    -- of-requires
+    (λ c κs. search needs)
+    -- body-of-requires
+    (λ c κs. search needs)
+    -- asked-of-requires
+    (λ c κs. search needs)
+    -- returns
+    (λ c. rw (c .asked-of .ensures, c .before .body-of .ensures, c .before .before .of .ensures)))

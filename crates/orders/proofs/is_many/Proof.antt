@@ -1,0 +1,32 @@
+-- `orders::is_many` meets its contract: an arm for each kind of data.
+-- Assumes nothing.
+use borrow.Author.Needs.{needs}
+use Rattle.orders.proofs.is_many.Statement.{statement}
+use Rattle.orders.proofs.is_many.Tie as tie
+
+pub is-many-spec : {M : Type 1} → statement M
+is-many-spec =
+    tie.close
+    (tie.spec
+    -- enum-told
+    (λ c. search needs)
+    -- is-any-requires
+    (λ c κs. search needs)
+    -- enum-known-b
+    (λ c. search needs)
+    -- enum-told-2
+    (λ c. search needs)
+    -- enum-known-b-2
+    (λ c. search needs)
+    -- enum-told-3
+    (λ c. search needs)
+    -- returns
+    (λ c. rw (c .before .enum-told .given .1, c .is-any .ensures))
+    -- returns-2
+    (λ c. rw (c .before .before .before .b .given .1))
+    -- returns-3
+    (λ c. search needs)
+    -- returns-4
+    (λ c. rw (c .before .before .before .b2 .given .1))
+    -- returns-5
+    (λ c. search needs))

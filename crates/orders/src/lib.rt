@@ -1,0 +1,160 @@
+// What the host is asked to build, and what of it is refused: each row of the host's table but the last, which looks
+// at the samples.
+ghost use mathlib.Core.Path.{_≡_};
+ghost use mathlib.Core.Bool.{_||_};
+ghost use mathlib.Core.List.{[]};
+ghost use lib.Dec.{ltb};
+ghost use Rattle.paper.specs.Building.{asked, addressed, waitsByRegister, beyond, overlong, tooFew, tooMany, kindAsked, bodyAsked};
+ghost use Rattle.orders.specs.Orders.{orderAs};
+use commands::plans::Address;
+use commands::plans::Body;
+use commands::plans::address_of;
+use commands::plans::body_of;
+use opcodes::Kind;
+use opcodes::kind_of;
+use parts::Part;
+use record::mode_wires;
+use units::Bytes;
+
+// A command in numbers: any values at all. `wanted` is the number of bytes to read; what is to be written is lent
+// beside it.
+pub struct Order {
+    pub part: u8,
+    pub opcode: u8,
+    pub mode: u8,
+    pub address: u32,
+    pub cr2: u8,
+    pub wanted: Bytes,
+}
+
+// The kind of the command; a part or a mode that there is not has none.
+pub fn kind_asked(o: Order) -> Kind
+    ensures { λ r. ⌜ r ≡ kindAsked (orderAs o []) ⌝ }
+{
+    if !Part::is_known(o.part) {
+        return Kind::Unknown;
+    }
+    let p = Part::of(o.part);
+    if !values::mode_allowed(p, o.mode) {
+        return Kind::Unknown;
+    }
+    kind_of(p, mode_wires(o.mode), o.opcode)
+}
+
+// The data that may be asked for: up to eight bytes of any register, whatever the map says.
+fn asked_of(k: Kind, b: Body) -> Body
+    ensures { λ r. ⌜ r ≡ asked k b ⌝ }
+{
+    match k {
+        Kind::Unknown => b,
+        Kind::Plain(_) => b,
+        Kind::ReadRegister(_) => b,
+        Kind::ReadAny => Body::FixedRead(Bytes(8)),
+        Kind::ReadMode => b,
+        Kind::ReadIdentity => b,
+        Kind::WriteRegister(_) => b,
+        Kind::WriteMode => b,
+        Kind::ReadMemory(_) => b,
+        Kind::WriteMemory(_) => b,
+        Kind::ReadArea => b,
+        Kind::WriteArea => b,
+    }
+}
+
+pub fn body_asked(o: Order, k: Kind) -> Body
+    ensures { λ r. ⌜ r ≡ bodyAsked (orderAs o []) k ⌝ }
+{
+    let p = Part::of(o.part);
+    let b = body_of(p, k, o.address);
+    asked_of(k, b)
+}
+
+// Whether a command has an address.
+fn is_addressed(a: Address) -> bool
+    ensures { λ r. ⌜ r ≡ addressed a ⌝ }
+{
+    match a {
+        Address::Absent => false,
+        Address::InMemory => true,
+        Address::InArea => true,
+        Address::InMap => true,
+        Address::LowNibbleZero => true,
+        Address::Ignored => true,
+    }
+}
+
+// Whether its wait stands in configuration 2.
+fn waits_by_register(k: Kind) -> bool
+    ensures { λ r. ⌜ r ≡ waitsByRegister k ⌝ }
+{
+    match k {
+        Kind::Unknown => false,
+        Kind::Plain(_) => false,
+        Kind::ReadRegister(_) => false,
+        Kind::ReadAny => false,
+        Kind::ReadMode => false,
+        Kind::ReadIdentity => false,
+        Kind::WriteRegister(_) => false,
+        Kind::WriteMode => false,
+        Kind::ReadMemory(_) => false,
+        Kind::WriteMemory(_) => false,
+        Kind::ReadArea => true,
+        Kind::WriteArea => false,
+    }
+}
+
+// 7: an address that 24 bits do not hold, where there is one.
+pub fn is_beyond(o: Order, k: Kind) -> bool
+    ensures { λ r. ⌜ r ≡ beyond k (o .address) ⌝ }
+{
+    let a = address_of(k);
+    if !is_addressed(a) {
+        return false;
+    }
+    0xFFFFFF < o.address
+}
+
+// 10: a wait that four bits do not hold, where it stands in configuration 2.
+pub fn is_overlong_wait(o: Order, k: Kind) -> bool
+    ensures { λ r. ⌜ r ≡ overlong k (o .cr2) ⌝ }
+{
+    if !waits_by_register(k) {
+        return false;
+    }
+    0x0F < o.cr2
+}
+
+// 4: no byte where there is data, or a fixed write that is not full.
+pub fn is_few(b: Body, wanted: Bytes, written: Bytes) -> bool
+    ensures { λ r. ⌜ r ≡ tooFew b wanted written ⌝ }
+{
+    match b {
+        Body::Nothing => false,
+        Body::FixedRead(_) => wanted.0 < 1,
+        Body::AnyRead => wanted.0 < 1,
+        Body::FixedWrite(size) => written.0 < size.0,
+        Body::AnyWrite => written.0 < 1,
+    }
+}
+
+// 11: more than the size, or anything at all where there is no data.
+pub fn is_many(b: Body, wanted: Bytes, written: Bytes) -> bool
+    ensures { λ r. ⌜ r ≡ tooMany b wanted written ⌝ }
+{
+    match b {
+        Body::Nothing => is_any(wanted, written),
+        Body::FixedRead(size) => size.0 < wanted.0,
+        Body::AnyRead => false,
+        Body::FixedWrite(size) => size.0 < written.0,
+        Body::AnyWrite => false,
+    }
+}
+
+fn is_any(wanted: Bytes, written: Bytes) -> bool
+    ensures { λ r. ⌜ r ≡ (ltb 0 (written .0) || ltb 0 (wanted .0)) ⌝ }
+{
+    if 0 < written.0 {
+        return true;
+    }
+    0 < wanted.0
+}

@@ -1,0 +1,166 @@
+-- The host half, first: a command becomes samples. Document 01, "The host half", first paragraph.
+use Prim.Native.Nat.{ℕ}
+use mathlib.Core.Bool.{Bool, true, false, cond, _&&_, _||_}
+use mathlib.Core.List.{List, [], _∷_, _++_}
+use lib.Dec.{ltb}
+use lib.ListN.{length, replicate}
+use Rattle.units.specs.declared.Clocks.{Clocks}
+use Rattle.units.specs.declared.Bytes.{Bytes}
+use Rattle.units.specs.declared.Wires.{Wires}
+use Rattle.units.specs.Units.{clocks, bytes, perByte, clocksOf}
+use Rattle.wires.specs.Bits.{spread}
+use Rattle.parts.specs.Parts.{partOf, knownPart}
+use Rattle.opcodes.specs.declared.Kind.{Kind}
+use Rattle.opcodes.specs.declared.Kind.the-variants as Kinds
+use Rattle.opcodes.specs.Kinds.{kindOf}
+use Rattle.commands.specs.declared.plans.Address.{Address}
+use Rattle.commands.specs.declared.plans.Address.the-variants.{Absent, InMemory, InArea, InMap, LowNibbleZero, Ignored}
+use Rattle.commands.specs.declared.plans.Body.{Body}
+use Rattle.commands.specs.declared.plans.Body.the-variants.{Nothing, FixedRead, AnyRead, FixedWrite, AnyWrite}
+use Rattle.commands.specs.Plans.{laterWires, addressOf, waitOf, bodyOf}
+use Rattle.record.specs.declared.Answer.{Answer}
+use Rattle.record.specs.declared.Answer.the-variants.{Size, Short, Unknown, Address as Refused, Reserved, Long}
+use Rattle.record.specs.Devices.{modeWires}
+use Rattle.values.specs.States.{modeAllowed}
+use Rattle.paper.specs.InForce.{addressLength, unknown}
+use Rattle.paper.specs.Reading.{many}
+use Rattle.paper.specs.Answers.{firstOf, fewer, fewerBytes}
+use Rattle.paper.specs.Transaction.{isDone, over}
+
+-- what the host is asked to build: a read has a number of bytes, a write has its bytes
+pub record Order : Type 0 where
+  pub part : ℕ
+  pub opcode : ℕ
+  pub mode : ℕ
+  pub address : ℕ
+  pub cr2 : ℕ
+  pub written : List ℕ
+  pub wanted : Bytes
+
+-- the bytes of a list
+abbrev pub manyBytes : List ℕ → Bytes
+manyBytes bs = bytes (length bs)
+
+-- the wires of the command, and its kind; a part or a mode that there is not has no kind
+abbrev pub sentOn : Order → Wires
+sentOn o = modeWires (o .mode)
+
+unfoldable pub kindAsked : Order → Kind
+kindAsked o = cond (knownPart (o .part) && modeAllowed (partOf (o .part)) (o .mode)) (kindOf (partOf (o .part)) (sentOn o) (o .opcode)) Kinds.Unknown
+
+-- The data that the host may ask for. It does not look at 65's map: that takes up to eight bytes whatever the address.
+abbrev pub asked : Kind → Body → Body
+asked Kinds.Unknown b = b
+asked (Kinds.Plain c) b = b
+asked (Kinds.ReadRegister r) b = b
+asked Kinds.ReadAny b = FixedRead (bytes 8)
+asked Kinds.ReadMode b = b
+asked Kinds.ReadIdentity b = b
+asked (Kinds.WriteRegister r) b = b
+asked Kinds.WriteMode b = b
+asked (Kinds.ReadMemory s) b = b
+asked (Kinds.WriteMemory s) b = b
+asked Kinds.ReadArea b = b
+asked Kinds.WriteArea b = b
+
+abbrev pub bodyAsked : Order → Kind → Body
+bodyAsked o k = asked k (bodyOf (partOf (o .part)) k (o .address))
+
+-- ---- the refusals
+abbrev pub addressed : Address → Bool
+addressed Absent = false
+addressed InMemory = true
+addressed InArea = true
+addressed InMap = true
+addressed LowNibbleZero = true
+addressed Ignored = true
+
+-- 7: an address that 24 bits do not hold, where the command has one
+unfoldable pub beyond : Kind → ℕ → Bool
+beyond k address = addressed (addressOf k) && ltb 0xFFFFFF address
+
+-- 10 is for the command whose wait stands in configuration 2
+abbrev pub waitsByRegister : Kind → Bool
+waitsByRegister Kinds.Unknown = false
+waitsByRegister (Kinds.Plain c) = false
+waitsByRegister (Kinds.ReadRegister r) = false
+waitsByRegister Kinds.ReadAny = false
+waitsByRegister Kinds.ReadMode = false
+waitsByRegister Kinds.ReadIdentity = false
+waitsByRegister (Kinds.WriteRegister r) = false
+waitsByRegister Kinds.WriteMode = false
+waitsByRegister (Kinds.ReadMemory s) = false
+waitsByRegister (Kinds.WriteMemory s) = false
+waitsByRegister Kinds.ReadArea = true
+waitsByRegister Kinds.WriteArea = false
+
+unfoldable pub overlong : Kind → ℕ → Bool
+overlong k cr2 = waitsByRegister k && ltb 0x0F cr2
+
+-- 4: no byte where there is data, or a fixed write that is not full; a fixed read may ask for fewer
+abbrev pub tooFew : Body → Bytes → Bytes → Bool
+tooFew Nothing wanted written = false
+tooFew (FixedRead b) wanted written = fewerBytes wanted (bytes 1)
+tooFew AnyRead wanted written = fewerBytes wanted (bytes 1)
+tooFew (FixedWrite b) wanted written = fewerBytes written b
+tooFew AnyWrite wanted written = fewerBytes written (bytes 1)
+
+-- 11: more than the size, or anything at all where there is no data
+abbrev pub tooMany : Body → Bytes → Bytes → Bool
+tooMany Nothing wanted written = fewerBytes (bytes 0) written || fewerBytes (bytes 0) wanted
+tooMany (FixedRead b) wanted written = fewerBytes b wanted
+tooMany AnyRead wanted written = false
+tooMany (FixedWrite b) wanted written = fewerBytes b written
+tooMany AnyWrite wanted written = false
+
+-- ---- the samples
+-- each byte of a write, the first first
+unfoldable pub spreadAll : Wires → List ℕ → List ℕ
+spreadAll w [] = []
+spreadAll w (b ∷ bs) = spread w (perByte w) b ++ spreadAll w bs
+
+abbrev pub silent : Clocks → List ℕ
+silent c = replicate (c .0) 0
+
+abbrev pub dataSent : Body → Wires → Order → List ℕ
+dataSent Nothing w o = []
+dataSent (FixedRead b) w o = silent (clocksOf w (o .wanted))
+dataSent AnyRead w o = silent (clocksOf w (o .wanted))
+dataSent (FixedWrite b) w o = spreadAll w (o .written)
+dataSent AnyWrite w o = spreadAll w (o .written)
+
+-- command, address, wait and data, one after the other
+unfoldable pub builtOf : Order → Kind → List ℕ
+builtOf o k =
+    let w = sentOn o in
+    let v = laterWires k w in
+    spread w (perByte w) (o .opcode)
+    ++ (spread v (addressLength (addressOf k) v .0) (o .address)
+    ++ (silent (waitOf k w (o .cr2))
+    ++ dataSent (bodyAsked o k) v o))
+
+-- THE ROWS, in the order of checking
+abbrev pub buildRows : Order → Kind → List ℕ → List (Bool × Answer)
+buildRows o k out =
+    (unknown k, Unknown)
+    ∷ (beyond k (o .address), Refused)
+    ∷ (overlong k (o .cr2), Reserved)
+    ∷ (tooFew (bodyAsked o k) (o .wanted) (manyBytes (o .written)), Short)
+    ∷ (tooMany (bodyAsked o k) (o .wanted) (manyBytes (o .written)), Long)
+    ∷ (fewer (clocks 65535) (many (builtOf o k)) || fewer (many out) (many (builtOf o k)), Size)
+    ∷ []
+
+-- what a call of the host half tells, and what it leaves in the buffer
+pub record Told : Type 0 where
+  pub answer : Answer
+  pub number : ℕ
+  pub buffer : List ℕ
+
+abbrev pub told : Answer → List ℕ → List ℕ → Told
+told v xs out = cond (isDone v) (record { answer = v; number = length xs; buffer = over xs out }) (record { answer = v; number = 0; buffer = out })
+
+-- BUILD: the samples and how many they are, or a refusal that writes nothing
+unfoldable pub buildOf : Order → List ℕ → Told
+buildOf o out =
+    let k = kindAsked o in
+    told (firstOf (buildRows o k out)) (builtOf o k) out

@@ -1,0 +1,44 @@
+-- The host half, second: bytes from driven samples. Document 01, "The host half", second paragraph.
+use Prim.Native.Nat.{ℕ}
+use mathlib.Core.Bool.{Bool, false, cond, not, _&&_, _||_}
+use mathlib.Core.List.{List, [], _∷_}
+use lib.Dec.{eqb, ltb}
+use lib.ListN.{length}
+use Rattle.units.specs.declared.Wires.{Wires}
+use Rattle.wires.specs.Levels.{seenOf, drivenOf}
+use Rattle.record.specs.declared.Answer.{Answer}
+use Rattle.record.specs.declared.Answer.the-variants.{Size, Sample, Unknown}
+use Rattle.record.specs.Devices.{modeWires}
+use Rattle.paper.specs.Reading.{dataBytes}
+use Rattle.paper.specs.Answers.{firstOf}
+use Rattle.paper.specs.Building.{Told, told}
+
+-- one, two or four wires
+abbrev pub isWires : ℕ → Bool
+isWires w = eqb w 1 || (eqb w 2 || eqb w 4)
+
+-- the bits of the driven clocks; a clock of 00h is skipped, wherever it stands
+unfoldable pub seenIn : Wires → List ℕ → List ℕ
+seenIn w [] = []
+seenIn w (x ∷ xs) = cond (eqb x 0) (seenIn w xs) (seenOf w x ∷ seenIn w xs)
+
+-- a byte that the device never drives on so many wires
+unfoldable pub strange : Wires → List ℕ → Bool
+strange w [] = false
+strange w (x ∷ xs) = (not (eqb x 0) && not (drivenOf w x)) || strange w xs
+
+-- the whole bytes that they make; an unfinished last one is dropped
+unfoldable pub collected : Wires → List ℕ → List ℕ
+collected w xs = dataBytes w (seenIn w xs)
+
+abbrev pub collectRows : ℕ → List ℕ → List ℕ → List (Bool × Answer)
+collectRows wires xs out =
+    let w = modeWires wires in
+    (not (isWires wires), Unknown)
+    ∷ (strange w xs, Sample)
+    ∷ (ltb (length out) (length (collected w xs)), Size)
+    ∷ []
+
+-- GATHER: the bytes and how many they are, or a refusal that writes nothing
+unfoldable pub collectOf : ℕ → List ℕ → List ℕ → Told
+collectOf wires xs out = told (firstOf (collectRows wires xs out)) (collected (modeWires wires) xs) out
