@@ -1,11 +1,14 @@
-//! How far a generated bundle or probe file reaches.
+//! How far a generated bundle, probe file or request file reaches.
 
 use std::collections::BTreeMap;
 
+use crate::ask::request_list;
 use crate::compact::take_tape;
 use crate::device::Record;
+use crate::faults::{faults, OF_BUILD, PAIRS_OF_BUILD, PAIRS_OF_GATHER};
 use crate::generate::bundle;
 use crate::probe::Call;
+use crate::request;
 use crate::spoil::probe_list;
 use crate::table::{look_up, modes, opcodes, M, P};
 use crate::tape::{run, Entry};
@@ -18,6 +21,10 @@ const ON_TAPE: [u8; 11] = [0, 2, 4, 5, 6, 7, 8, 9, 10, 11, 12];
 const ON_TRANSACTION: [u8; 13] = [0, 1, 2, 3, 4, 5, 6, 7, 8, 9, 10, 11, 12];
 /// Answers that a power cycle can give.
 const ON_POWER_CYCLE: [u8; 3] = [0, 1, 3];
+/// Answers that a build can give.
+const ON_BUILD: [u8; 7] = [0, 1, 4, 5, 7, 10, 11];
+/// Answers that a gathering can give.
+const ON_GATHER: [u8; 4] = [0, 1, 2, 5];
 
 /// Part, bus mode and opcode of a command.
 type Pair = (u8, u8, u8);
@@ -66,6 +73,38 @@ impl Tally {
             if !wanted.contains(answer) {
                 all = false;
                 *text += &format!("  {answer}: {count} (not expected)\n");
+            }
+        }
+        all
+    }
+
+    /// Adds how often every command was built; tells whether none is missing.
+    fn show_built(&self, text: &mut String) -> bool {
+        let mut all = true;
+        for part in [M, P] {
+            for &mode in modes(part) {
+                let count = |opcode: u8| self.done.get(&(part, mode, opcode)).copied().unwrap_or(0);
+                let table: Vec<u8> = opcodes(part)
+                    .into_iter()
+                    .filter(|&opcode| look_up(part, opcode, mode).is_some())
+                    .collect();
+                let missed: Vec<u8> = table
+                    .iter()
+                    .copied()
+                    .filter(|&opcode| count(opcode) == 0)
+                    .collect();
+                all &= missed.is_empty();
+                *text += &format!(
+                    "part {} mode {mode}: {} of {} commands built; missed: {}\n  answered 0:",
+                    if part == M { 'M' } else { 'P' },
+                    table.len() - missed.len(),
+                    table.len(),
+                    list(&missed),
+                );
+                for opcode in table {
+                    *text += &format!(" {opcode:02X}={}", count(opcode));
+                }
+                *text += "\n";
             }
         }
         all
@@ -202,6 +241,96 @@ pub fn of_probes(seed: u64, count: usize) -> (String, bool) {
         transactions.show_answers("transactions by answer:", &ON_TRANSACTION, &mut text);
     complete &= power_cycles.show_answers("power cycles by answer:", &ON_POWER_CYCLE, &mut text);
     complete &= transactions.show_pairs(&mut text);
+    text += verdict(complete);
+    (text, complete)
+}
+
+/// How often a later refusal held behind the one that was answered.
+#[derive(Default)]
+struct Behind(BTreeMap<(u8, u8), u64>);
+
+impl Behind {
+    fn add(&mut self, answer: u8, faults: &[u8]) {
+        for &fault in faults.iter().filter(|&&fault| fault != answer) {
+            *self.0.entry((answer, fault)).or_default() += 1;
+        }
+    }
+
+    /// Adds the count of every pair; tells whether all were met and no other.
+    fn show(&self, title: &str, wanted: &[(u8, u8)], text: &mut String) -> bool {
+        *text += &format!("{title}\n");
+        let mut all = true;
+        for pair in wanted {
+            let count = self.0.get(pair).copied().unwrap_or(0);
+            all &= count > 0;
+            *text += &format!("  {} before {}: {count}\n", pair.0, pair.1);
+        }
+        for (pair, count) in &self.0 {
+            if !wanted.contains(pair) {
+                all = false;
+                *text += &format!("  {} before {}: {count} (not expected)\n", pair.0, pair.1);
+            }
+        }
+        all
+    }
+}
+
+/// Makes requests, runs them and tells what they reached.
+pub fn of_requests(seed: u64, count: usize) -> (String, bool) {
+    let (mut builds, mut gathers) = (Tally::default(), Tally::default());
+    let (mut behind_build, mut behind_gather) = (Behind::default(), Behind::default());
+    let (mut samples, mut most_samples, mut bytes, mut most_bytes) = (0u64, 0, 0u64, 0);
+    let (mut file_bytes, mut three_faults) = (0, 0u64);
+    for request in request_list(seed, count) {
+        let outcome = request.run();
+        let faults = faults(&request);
+        file_bytes += request::HEAD_BYTES + request.data.len();
+        let (tally, behind) = match request.call {
+            request::Call::Build => {
+                samples += u64::from(outcome.told);
+                most_samples = most_samples.max(outcome.told);
+                three_faults += u64::from(faults.len() > 2);
+                (&mut builds, &mut behind_build)
+            }
+            request::Call::Gather => {
+                bytes += u64::from(outcome.told);
+                most_bytes = most_bytes.max(outcome.told);
+                (&mut gathers, &mut behind_gather)
+            }
+        };
+        *tally.answers.entry(outcome.answer).or_default() += 1;
+        if outcome.answer == 0 {
+            let pair = (request.part_or_wires, request.mode, request.opcode);
+            *tally.done.entry(pair).or_default() += 1;
+        }
+        behind.add(outcome.answer, &faults);
+    }
+    let all = |tally: &Tally| tally.answers.values().sum::<u64>();
+    let mut text = format!(
+        "requests {count}: {} build, {} gather, {file_bytes} bytes of file\n\
+         samples built {samples}, most in one {most_samples}; \
+         bytes gathered {bytes}, most in one {most_bytes}\n",
+        all(&builds),
+        all(&gathers),
+    );
+    let mut complete = builds.show_answers("build by answer:", &ON_BUILD, &mut text);
+    complete &= gathers.show_answers("gather by answer:", &ON_GATHER, &mut text);
+    complete &= builds.show_built(&mut text);
+    complete &= behind_build.show(
+        "build, the refusal answered and one that held behind it:",
+        &PAIRS_OF_BUILD,
+        &mut text,
+    );
+    text += &format!(
+        "  three or more of {} at once: {three_faults}\n",
+        OF_BUILD.len()
+    );
+    text += "  10 with 11 and 4 with 11 cannot hold at once\n";
+    complete &= behind_gather.show(
+        "gather, the refusal answered and one that held behind it:",
+        &PAIRS_OF_GATHER,
+        &mut text,
+    );
     text += verdict(complete);
     (text, complete)
 }

@@ -6,13 +6,16 @@
 //! number 2. A transaction is worked out as a whole: the samples are cut into
 //! command, address, wait, data and rest, and each piece is then looked at once.
 
+pub mod ask;
 pub mod compact;
 pub mod compose;
 pub mod coverage;
 pub mod device;
+pub mod faults;
 pub mod generate;
 pub mod host;
 pub mod probe;
+pub mod request;
 pub mod rng;
 pub mod spoil;
 pub mod table;

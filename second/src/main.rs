@@ -3,17 +3,20 @@
 use std::io::{self, BufWriter, Read, Write};
 use std::process::ExitCode;
 
-use second::{compact, coverage, generate, probe, spoil, tape};
+use second::{ask, compact, coverage, generate, probe, request, spoil, tape};
 
 const USAGE: &str = "usage:
   second tape [FILE]
   second make tape SEED RECORDS
   second make bundle SEED TAPES RECORDS
   second make probes SEED COUNT
+  second make requests SEED COUNT
   second compact [BUNDLE]
   second probe [FILE]
+  second host [FILE]
   second coverage SEED TAPES RECORDS
-  second probe-coverage SEED COUNT";
+  second probe-coverage SEED COUNT
+  second host-coverage SEED COUNT";
 
 /// The named file, or standard input where none is named.
 fn input(files: &[&str]) -> Result<Vec<u8>, String> {
@@ -53,6 +56,9 @@ fn run(words: &[&str], out: &mut dyn Write) -> Result<(), String> {
         ["make", "probes", seed, count] => {
             out.write_all(&spoil::probes(number(seed)?, number(count)?))
         }
+        ["make", "requests", seed, count] => {
+            out.write_all(&ask::requests(number(seed)?, number(count)?))
+        }
         ["compact", files @ ..] => {
             let bytes = input(files)?;
             compact::compact(&bytes, &mut |line| out.write_all(line.as_bytes()))
@@ -61,12 +67,20 @@ fn run(words: &[&str], out: &mut dyn Write) -> Result<(), String> {
             let bytes = input(files)?;
             probe::probe(&bytes, &mut |line| out.write_all(line.as_bytes()))
         }
+        ["host", files @ ..] => {
+            let bytes = input(files)?;
+            request::host(&bytes, &mut |line| out.write_all(line.as_bytes()))
+        }
         ["coverage", seed, tapes, records] => {
             let (text, _) = coverage::of_bundle(number(seed)?, number(tapes)?, number(records)?);
             out.write_all(text.as_bytes())
         }
         ["probe-coverage", seed, count] => {
             let (text, _) = coverage::of_probes(number(seed)?, number(count)?);
+            out.write_all(text.as_bytes())
+        }
+        ["host-coverage", seed, count] => {
+            let (text, _) = coverage::of_requests(number(seed)?, number(count)?);
             out.write_all(text.as_bytes())
         }
         _ => return Err(String::from(USAGE)),

@@ -47,6 +47,11 @@ fn made_input_goes_back_in() {
     let text = second(&["probe"], &probes).stdout;
     assert_eq!(text, second::probe::probe_text(&probes).into_bytes());
     assert_eq!(String::from_utf8_lossy(&text).lines().count(), 40);
+    let requests = second(&["make", "requests", "7", "50"], &[]).stdout;
+    assert_eq!(requests, second::ask::requests(7, 50));
+    let text = second(&["host"], &requests).stdout;
+    assert_eq!(text, second::request::host_text(&requests).into_bytes());
+    assert_eq!(String::from_utf8_lossy(&text).lines().count(), 50);
 }
 
 #[test]
@@ -55,6 +60,9 @@ fn coverage_reports() {
     assert!(out.status.success());
     assert!(out.stdout.ends_with(b"coverage incomplete\n"));
     let out = second(&["probe-coverage", "1", "10"], &[]);
+    assert!(out.status.success());
+    assert!(out.stdout.ends_with(b"coverage incomplete\n"));
+    let out = second(&["host-coverage", "1", "10"], &[]);
     assert!(out.status.success());
     assert!(out.stdout.ends_with(b"coverage incomplete\n"));
 }
@@ -72,6 +80,9 @@ fn errors() {
         &["tape", "a", "b"],
         &["compact", "no-such-file-here"],
         &["probe", "no-such-file-here"],
+        &["make", "requests", "1"],
+        &["host", "no-such-file-here"],
+        &["host-coverage", "1"],
         &["coverage", "1", "2"],
     ] {
         let out = second(words, &[]);

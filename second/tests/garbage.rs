@@ -6,6 +6,7 @@ use second::compact::compact_text;
 use second::device::{power_cycle, transact, Record};
 use second::host::{build, gather};
 use second::probe::probe_text;
+use second::request::host_text;
 use second::rng::Rng;
 use second::tape::bench;
 
@@ -82,6 +83,26 @@ fn random_probe_files() {
         probe_text(&file);
         let kept = rng.below(file.len());
         probe_text(&file[..kept]);
+    }
+}
+
+#[test]
+fn random_request_files() {
+    let mut rng = Rng::new(18);
+    for _ in 0..300 {
+        let file = noise(&mut rng, 100);
+        host_text(&file);
+    }
+    let good = second::ask::requests(9, 20);
+    for _ in 0..200 {
+        let mut file = good.clone();
+        for _ in 0..4 {
+            let at = rng.below(file.len());
+            file[at] = rng.byte();
+        }
+        host_text(&file);
+        let kept = rng.below(file.len());
+        host_text(&file[..kept]);
     }
 }
 
