@@ -150,17 +150,20 @@ buildRows o k out =
     ∷ (fewer (clocks 65535) (many (builtOf o k)) || fewer (many out) (many (builtOf o k)), Size)
     ∷ []
 
--- what a call of the host half tells, and what it leaves in the buffer
-pub record Told : Type 0 where
+-- What a call of the host half tells, and what it leaves in the buffer. The number is of clocks where samples are built, and of bytes where bytes are
+-- gathered: the unit is part of the type.
+pub record Told (U : Type 0) : Type 0 where
   pub answer : Answer
-  pub number : ℕ
+  pub number : U
   pub buffer : List ℕ
 
-abbrev pub told : Answer → List ℕ → List ℕ → Told
-told v xs out = cond (isDone v) (record { answer = v; number = length xs; buffer = over xs out }) (record { answer = v; number = 0; buffer = out })
+-- what was made, over the front of the buffer, and how much it is; a refusal writes nothing and tells 0
+abbrev pub told : {U : Type 0} → (ℕ → U) → Answer → List ℕ → List ℕ → Told U
+told unit v xs out =
+    cond (isDone v) (record { answer = v; number = unit (length xs); buffer = over xs out }) (record { answer = v; number = unit 0; buffer = out })
 
--- BUILD: the samples and how many they are, or a refusal that writes nothing
-unfoldable pub buildOf : Order → List ℕ → Told
+-- BUILD: the samples and how many clocks they are, or a refusal
+unfoldable pub buildOf : Order → List ℕ → Told Clocks
 buildOf o out =
     let k = kindAsked o in
-    told (firstOf (buildRows o k out)) (builtOf o k) out
+    told clocks (firstOf (buildRows o k out)) (builtOf o k) out

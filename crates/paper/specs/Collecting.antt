@@ -2,16 +2,17 @@
 use Prim.Native.Nat.{ℕ}
 use mathlib.Core.Bool.{Bool, false, cond, not, _&&_, _||_}
 use mathlib.Core.List.{List, [], _∷_}
-use lib.Dec.{eqb, ltb}
-use lib.ListN.{length}
+use lib.Dec.{eqb}
+use Rattle.units.specs.declared.Bytes.{Bytes}
 use Rattle.units.specs.declared.Wires.{Wires}
+use Rattle.units.specs.Units.{bytes}
 use Rattle.wires.specs.Levels.{seenOf, drivenOf}
 use Rattle.record.specs.declared.Answer.{Answer}
 use Rattle.record.specs.declared.Answer.the-variants.{Size, Sample, Unknown}
 use Rattle.record.specs.Devices.{modeWires}
 use Rattle.paper.specs.Reading.{dataBytes}
-use Rattle.paper.specs.Answers.{firstOf}
-use Rattle.paper.specs.Building.{Told, told}
+use Rattle.paper.specs.Answers.{firstOf, fewerBytes}
+use Rattle.paper.specs.Building.{manyBytes, Told, told}
 
 -- one, two or four wires
 abbrev pub isWires : ℕ → Bool
@@ -36,9 +37,9 @@ collectRows wires xs out =
     let w = modeWires wires in
     (not (isWires wires), Unknown)
     ∷ (strange w xs, Sample)
-    ∷ (ltb (length out) (length (collected w xs)), Size)
+    ∷ (fewerBytes (manyBytes out) (manyBytes (collected w xs)), Size)
     ∷ []
 
--- GATHER: the bytes and how many they are, or a refusal that writes nothing
-unfoldable pub collectOf : ℕ → List ℕ → List ℕ → Told
-collectOf wires xs out = told (firstOf (collectRows wires xs out)) (collected (modeWires wires) xs) out
+-- GATHER: the bytes and how many they are, or a refusal
+unfoldable pub collectOf : ℕ → List ℕ → List ℕ → Told Bytes
+collectOf wires xs out = told bytes (firstOf (collectRows wires xs out)) (collected (modeWires wires) xs) out

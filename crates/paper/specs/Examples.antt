@@ -4,8 +4,10 @@ use Prim.Native.Nat.{ℕ, _*_}
 use mathlib.Core.Bool.{Bool, _&&_}
 use mathlib.Core.List.{List, [], _∷_, _++_, map}
 use lib.Dec.{T, eqb}
-use lib.ListN.{length, getD, drop, replicate, set}
+use lib.ListN.{length, getD, drop, take, replicate, set}
 use Rattle.basis.specs.Examples.{all, same}
+use Rattle.units.specs.declared.Clocks.{Clocks}
+use Rattle.units.specs.declared.Bytes.{Bytes}
 use Rattle.units.specs.declared.Wires.{Wires}
 use Rattle.units.specs.declared.Wires.the-variants.{One, Two, Four}
 use Rattle.units.specs.Units.{bytes, perByte}
@@ -26,6 +28,7 @@ use Rattle.paper.specs.Reading.{kindRead, addressRead, partsOf, bytesIn,
 use Rattle.paper.specs.Storing.{Lent, protectedAt, putAt, takeAll}
 use Rattle.paper.specs.Driving.{byteRead, levelAt, along}
 use Rattle.paper.specs.Answers.{judge, unarmed}
+use Rattle.paper.specs.Collecting.{seenIn, strange, collected, collectOf}
 use Rattle.paper.specs.Building.{Order, Told, kindAsked, beyond, overlong, spreadAll, builtOf, buildOf}
 use Rattle.paper.specs.Transaction.{World, sizedFor, roomFor, sampled, factsOf, drivenOf, over, clockedOf, transactOf}
 
@@ -64,7 +67,7 @@ abbrev memoryAt : World → List ℕ → List ℕ
 memoryAt r places = map (λ i. getD (r .lent .memory) i 0) places
 
 -- what the host builds for a command without address and data on part M
-abbrev plain : ℕ → ℕ → Told
+abbrev plain : ℕ → ℕ → Told Clocks
 plain opcode mode =
     let o : Order = record { part = 1; opcode = opcode; mode = mode; address = 0; cr2 = 0; written = []; wanted = bytes 0 } in
     buildOf o (replicate 8 0xA5)
@@ -73,9 +76,9 @@ unfoldable pub examples : List Bool
 examples =
     -- (a) 06 on two wires and on four; the room past the samples is kept
     (let t = plain 0x06 2 in
-    eqb (answerNumber (t .answer)) 0 && (eqb (t .number) 4 && same (t .buffer) (0x00 ∷ 0x00 ∷ 0x01 ∷ 0x02 ∷ replicate 4 0xA5)))
+    eqb (answerNumber (t .answer)) 0 && (eqb (t .number .0) 4 && same (t .buffer) (0x00 ∷ 0x00 ∷ 0x01 ∷ 0x02 ∷ replicate 4 0xA5)))
     ∷ (let t = plain 0x06 4 in
-    eqb (answerNumber (t .answer)) 0 && (eqb (t .number) 2 && same (t .buffer) (0x00 ∷ 0x06 ∷ replicate 6 0xA5)))
+    eqb (answerNumber (t .answer)) 0 && (eqb (t .number .0) 2 && same (t .buffer) (0x00 ∷ 0x06 ∷ replicate 6 0xA5)))
     -- (b) P, 0B, mode 4, one byte A5h
     ∷ (let r = sent (modeTo 4 p) (onP (set (blank 1024) 0x12 0xA5)) (byte Four 0x0B ++ (address Four 0x12 ++ blank 6)) in
     answers r 0 (2 ∷ 6 ∷ 4 ∷ 2 ∷ 0 ∷ []) && same (drop 12 (r .output)) (0xFA ∷ 0xF5 ∷ []))
@@ -110,15 +113,27 @@ pub examples-hold : T (all examples)
 unfolding examples kindAsked beyond overlong spreadAll builtOf buildOf shiftOf gatherFrom spread groupOf entryOf mappedOf statusAllowed cr3Allowed cr4Allowed configurationsAllowed modeRegisterAllowed modeAllowed zeros registersM registersP volatileM volatileP identityM identityP validOf readSpan writeSpan placeIn shutMemory sectionShut protectedOf areaProtectedOf asleepFor refusedAt stopped decided commandClocks wiresFor addressClocks waitClocks bodyFor kindRead addressRead partsOf bytesIn dataBytes protectedAt putAt takeAll byteRead levelAt along judge unarmed latchMissing sizedFor roomFor sampled factsOf drivenOf over clockedOf transactOf
 examples-hold = tt
 
--- Where (g) and (h) leave a way out: a burst that comes out of the protected bytes goes on, and part M's groups are for reads and not for writes.
+-- a read that the host builds, sent to a device, and gathered from what it drives on the wires of its data
+abbrev asks : Device → Lent → ℕ → ℕ → ℕ → ℕ → ℕ → Told Bytes
+asks d l opcode mode address wanted wires =
+    let o : Order = record { part = d .part; opcode = opcode; mode = mode; address = address; cr2 = 0; written = []; wanted = bytes wanted } in
+    let t = buildOf o (replicate 128 0xA5) in
+    collectOf wires (sent d l (take (t .number .0) (t .buffer)) .output) (replicate 10 0xA5)
+
+-- Where (g) and (h) leave a way out: a burst that comes out of the protected bytes goes on, and part M's groups are for reads and not for writes. Then the way
+-- from the host to the device and back: four bytes of part P by EB, and eight asked of a register that has one, by 65.
 unfoldable pub further : List Bool
 further =
     (let r = sent (statusTo 0x04 m) (onM (blank 1024)) (byte One 0x02 ++ (address One 0x3FE ++ (byte One 1 ++ (byte One 2 ++ (byte One 3 ++ byte One 4))))) in
     answers r 0 (8 ∷ 24 ∷ 0 ∷ 32 ∷ 0 ∷ []) && same (memoryAt r (0x3FE ∷ 0x3FF ∷ 0x000 ∷ 0x001 ∷ [])) (0 ∷ 0 ∷ 3 ∷ 4 ∷ []))
     ∷ (let r = sent (configurationsTo (0x00 ∷ 0x00 ∷ 0x10 ∷ 0x05 ∷ []) m) (onM (blank 1024)) (byte One 0x02 ++ (address One 0x00F ++ (byte One 1 ++ byte One 2))) in
     answers r 0 (8 ∷ 24 ∷ 0 ∷ 16 ∷ 0 ∷ []) && same (memoryAt r (0x00F ∷ 0x010 ∷ 0x000 ∷ [])) (1 ∷ 2 ∷ 0 ∷ []))
+    ∷ (let t = asks p (onP (set (set (blank 1024) 0x123 0xA5) 0x125 0x5A)) 0xEB 1 0x000123 4 4 in
+    eqb (t .number .0) 4 && same (t .buffer) (0xA5 ∷ 0x00 ∷ 0x5A ∷ 0x00 ∷ replicate 6 0xA5))
+    ∷ (let t = asks (statusTo 0x04 m) (onM (blank 1024)) 0x65 1 0x000000 8 1 in
+    eqb (t .number .0) 1 && same (t .buffer) (0x04 ∷ replicate 9 0xA5))
     ∷ []
 
 pub further-hold : T (all further)
-unfolding further shiftOf gatherFrom spread groupOf entryOf mappedOf statusAllowed cr3Allowed cr4Allowed configurationsAllowed modeRegisterAllowed modeAllowed zeros registersM registersP volatileM volatileP identityM identityP validOf readSpan writeSpan placeIn shutMemory sectionShut protectedOf areaProtectedOf asleepFor refusedAt stopped decided commandClocks wiresFor addressClocks waitClocks bodyFor kindRead addressRead partsOf bytesIn dataBytes protectedAt putAt takeAll byteRead levelAt along judge unarmed latchMissing sizedFor roomFor sampled factsOf drivenOf over clockedOf transactOf
+unfolding further kindAsked beyond overlong spreadAll builtOf buildOf seenIn strange collected collectOf shiftOf gatherFrom spread groupOf entryOf mappedOf statusAllowed cr3Allowed cr4Allowed configurationsAllowed modeRegisterAllowed modeAllowed zeros registersM registersP volatileM volatileP identityM identityP validOf readSpan writeSpan placeIn shutMemory sectionShut protectedOf areaProtectedOf asleepFor refusedAt stopped decided commandClocks wiresFor addressClocks waitClocks bodyFor kindRead addressRead partsOf bytesIn dataBytes protectedAt putAt takeAll byteRead levelAt along judge unarmed latchMissing sizedFor roomFor sampled factsOf drivenOf over clockedOf transactOf
 further-hold = tt

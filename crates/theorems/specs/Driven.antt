@@ -80,10 +80,10 @@ along-at f (x ∷ xs) t (suc i) h =
     let e : t + 1 + i ≡ t + suc i = omega arith in along-at f xs (t + 1) i (omega arith) ∙ ap (λ (n : ℕ). f (clocks n)) e
 
 -- ---- an output between clocks that drive nothing
-abbrev blank : ℕ → List ℕ
+abbrev pub blank : ℕ → List ℕ
 blank m = replicate m 0
 
-blank-length : (m : ℕ) → length (blank m) ≡ m
+pub blank-length : (m : ℕ) → length (blank m) ≡ m
 blank-length m = length-replicate m 0
 
 -- zeros show 0 at every place, and past their end too
@@ -114,7 +114,7 @@ ahead n o i h =
     let k : length (blank n) + (i - n) ≡ i = omega (arith, blank-length n) in
     ap (λ (m : ℕ). getD (blank n ++ o) m 0) (sym k) ∙ getD-append-add (blank n) o (i - n) 0
 
-three : (a b c : ℕ) (o : List ℕ) → blank a ++ (blank b ++ (blank c ++ o)) ≡ blank (a + b + c) ++ o
+pub three : (a b c : ℕ) (o : List ℕ) → blank a ++ (blank b ++ (blank c ++ o)) ≡ blank (a + b + c) ++ o
 three a b c o = rw (← replicate-append-replicate (a + b) c, ← replicate-append-replicate a b, append-assoc, append-assoc)
 
 -- ---- the data clocks
@@ -177,7 +177,7 @@ clock-says d l p done b n m i false e =
     rw (off done (reads b), List·getD-append (blank n) (middle d l p done b ++ blank m) 0 i z) (zeros n i)
 
 -- as many output bytes as samples
-driven-length : (d : Device) (l : Lent) (xs : List ℕ) (v : Answer) → length (tx.drivenOf d l (partsOf (settingOf d) xs) v) ≡ length xs
+pub driven-length : (d : Device) (l : Lent) (xs : List ℕ) (v : Answer) → length (tx.drivenOf d l (partsOf (settingOf d) xs) v) ≡ length xs
 unfolding tx.drivenOf
 driven-length d l xs v =
     let p = partsOf (settingOf d) xs in

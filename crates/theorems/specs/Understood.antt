@@ -1,0 +1,110 @@
+-- THE DEVICE READS WHAT THE HOST BUILT (demand 2). For a driver engineer: ask the host half for a command; if it answers 0, send the samples that it left to any device
+-- that is awake, is of that part and in that bus mode, has (for 4B) that configuration 2, and has the address. Then
+-- - the device takes them for just that opcode, that address and that data, and for a read it drives as many bytes as were asked for (65 no more than its register has);
+-- - it finds nothing wrong with the clocks: the answer is none of 1 to 7 and 11. What is left to decide lies in the device's own state and in the value of a
+--   register write: 8, 9, 10, 12, and a read is answered 0;
+-- - for a read, handing the device's whole output to the host's other function gives the bytes that the paper says are read there.
+-- It is stated over the definitions that `build`, `gather` and `transact` are proved to equal.
+-- Assumes nothing.
+use mathlib.Core.Path.{_≡_, sym, ap, subst, _∙_}
+use Prim.Native.Nat.{ℕ, _*_, _≤_}
+use mathlib.Core.Bool.{Bool, true, cond}
+use mathlib.Core.List.{List}
+use lib.ListN.{length}
+use Rattle.units.specs.declared.Wires.{Wires}
+use Rattle.units.specs.Units.{clocks, bytes, wiresOf, perByte, clocksOf}
+use Rattle.wires.specs.Bits.{gather}
+use Rattle.parts.specs.declared.Part.{Part}
+use Rattle.opcodes.specs.declared.Kind.{Kind}
+use Rattle.opcodes.specs.declared.Kind.the-variants as Kinds
+use Rattle.commands.specs.declared.plans.Body.{Body}
+use Rattle.commands.specs.Plans.{laterWires, addressOf, bodyOf}
+use Rattle.record.specs.declared.Answer.the-variants.{Done}
+use Rattle.record.specs.declared.Device.{Device}
+use Rattle.record.specs.Devices.{settingOf}
+use Rattle.record.specs.declared.Setting.{Setting}
+use Rattle.paper.specs.InForce.{wiresFor}
+use Rattle.paper.specs.Reading.{first, many, dataPart, partsOf, dataBytes}
+use Rattle.paper.specs.Storing.{Lent}
+use Rattle.paper.specs.Transaction.{over, transactOf}
+use Rattle.paper.specs.Building.{Order, manyBytes, tooMany, sentOn, kindAsked, asked, addressed, builtOf, buildOf}
+use Rattle.paper.specs.Collecting.{collectOf}
+use Rattle.theorems.specs.Driven.{reads, blank-length}
+use Rattle.theorems.specs.Sent.{byte-read}
+use Rattle.theorems.specs.Planned.{asked-same}
+use Rattle.theorems.specs.Built.{writes, shown, shown-all}
+use Rattle.theorems.specs.Meant.{Spelled, Meant, Ready, sent, wiresIn, bodyIn, bytesRead, faultless}
+use Rattle.theorems.specs.Answered.{no-refusal, sent-is, suits, carried-data, read-so, no-early, read-done, heard-so}
+
+-- ---- the statement
+pub record Understood (o : Order) (d : Device) (l : Lent) (xs out : List ℕ) : Type 0 where
+  -- the command, its address where it has one, and its data
+  pub opcode : gather (sentOn o) (partsOf (settingOf d) xs .commandPart) ≡ o .opcode
+  pub kind : partsOf (settingOf d) xs .kind ≡ kindAsked o
+  pub address : addressed (addressOf (kindAsked o)) ≡ true → partsOf (settingOf d) xs .address ≡ o .address
+  pub written : writes (bodyIn o) ≡ true → dataBytes (wiresIn o) (partsOf (settingOf d) xs .dataPart) ≡ o .written
+  pub wanted : reads (bodyIn o) ≡ true → many (partsOf (settingOf d) xs .dataPart) ≡ clocksOf (wiresIn o) (shown (bodyIn o) (o .wanted))
+  pub all : reads (bodyIn o) ≡ true → (kindAsked o ≡ Kinds.ReadAny → ⊥) → shown (bodyIn o) (o .wanted) ≡ o .wanted
+  -- the answer
+  pub answer : faultless (transactOf d l xs out .answer) ≡ true
+  pub done : reads (bodyIn o) ≡ true → transactOf d l xs out .answer ≡ Done
+  -- what comes back
+  pub heard : reads (bodyIn o) ≡ true → (buffer : List ℕ) → shown (bodyIn o) (o .wanted) .0 ≤ length buffer
+      → collectOf (wiresOf (wiresIn o)) (first (many xs) (transactOf d l xs out .output)) buffer
+      ≡ record { answer = Done; number = shown (bodyIn o) (o .wanted); buffer = over (bytesRead o d l) buffer }
+
+-- ---- the words of the order are those of the device
+module _ (o : Order) (room : List ℕ) (done : buildOf o room .answer ≡ Done) (sp : Spelled o) (d : Device) (m : Meant o d) where
+  abbrev k : Kind
+  k = kindAsked o
+
+  abbrev s : Setting
+  s = settingOf d
+
+  abbrev body : Body
+  body = bodyOf (s .part) k (o .address)
+
+  abbrev v : Wires
+  v = wiresFor s k
+
+  same-body : bodyIn o ≡ body
+  same-body = ap (λ (p : Part). bodyOf p k (o .address)) (sym (suits o room done sp d m .part))
+
+  same-wires : wiresIn o ≡ v
+  unfolding wiresFor
+  same-wires = ap (laterWires k) (sym (suits o room done sp d m .wires))
+
+  address-so : (b : Bool) → b ≡ true → cond b (o .address) 0 ≡ o .address
+  address-so b e = rw e
+
+  is-read : {B : Body} → B ≡ body → reads B ≡ true → reads body ≡ true
+  is-read e h = ap reads (sym e) ∙ h
+
+  understood-so : (l : Lent) (out : List ℕ) → Ready d l (builtOf o k) out → Understood o d l (builtOf o k) out
+  understood-so l out r =
+      let e₁ = read-so o room done sp d m in
+      let carries = carried-data o room done sp d m in
+      record {
+        opcode = rw (e₁, suits o room done sp d m .wires) (byte-read (sentOn o) (o .opcode) (sp .opcode));
+        kind = rw e₁;
+        address = λ e. rw e₁ (address-so (addressed (addressOf k)) e);
+        written = λ e. rw (e₁, same-wires) (carries .written (ap writes (sym same-body) ∙ e));
+        wanted = λ e.
+            rw (e₁, same-wires, same-body)
+            (ap many (carries .wanted (is-read same-body e)) ∙ ap clocks (blank-length (shown body (o .wanted) .0 * perByte v)));
+        all = λ e other.
+            shown-all (bodyIn o) (o .wanted) (manyBytes (o .written)) e
+            (ap (λ (b : Body). tooMany b (o .wanted) (manyBytes (o .written))) (sym (asked-same k (bodyIn o) other)) ∙ no-refusal o room done .1 .1 .1 .1 .0);
+        answer = no-early o room done sp d m l out r;
+        done = λ e. read-done o room done sp d m l out r (is-read same-body e);
+        heard = λ e buffer h.
+            rw (same-wires, same-body)
+            (heard-so o room done sp d m l out r (is-read same-body e) buffer (subst (λ (b : Body). shown b (o .wanted) .0 ≤ length buffer) same-body h));
+      }
+
+-- THE DEVICE READS WHAT THE HOST BUILT
+pub understood : (o : Order) (room : List ℕ) → buildOf o room .answer ≡ Done → Spelled o → (d : Device) → Meant o d
+    → (l : Lent) (out : List ℕ) → Ready d l (sent (buildOf o room)) out → Understood o d l (sent (buildOf o room)) out
+understood o room done sp d m l out r =
+    let e = sent-is o room done in
+    subst (λ (xs : List ℕ). Understood o d l xs out) (sym e) (understood-so o room done sp d m l out (subst (λ (xs : List ℕ). Ready d l xs out) e r))
