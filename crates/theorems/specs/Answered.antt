@@ -1,10 +1,10 @@
 -- The proof of Understood.antt: what the host answered 0 to is read as it was given, no row of the table before the last four holds, and what a read drives is heard.
 -- Assumes nothing.
 use mathlib.Core.Path.{_≡_, refl, sym, ap, _∙_}
-use Prim.Native.Nat.{ℕ, zero, suc, _+_, _*_, _<_, _≤_}
+use Prim.Native.Nat.{ℕ, _+_, _*_, _<_, _≤_}
 use native.Mathlib.Omega.{arith}
 use mathlib.Core.Bool.{Bool, true, false, cond, _||_}
-use mathlib.Core.List.{List, [], _∷_, _++_}
+use mathlib.Core.List.{List, _++_}
 use lib.Dec.{ltb}
 use lib.ListN.{length, take, drop}
 use lib.Seq.{take-at}
@@ -33,7 +33,7 @@ use Rattle.paper.specs.Transaction as tx
 use Rattle.paper.specs.Transaction.{World, clockedOf, roomFor, sampled, factsOf, isDone, over, transactOf}
 use Rattle.paper.specs.Building.{Order, kindAsked, asked, builtOf, buildRows, Told, buildOf}
 use Rattle.paper.specs.Collecting.{collectOf}
-use Rattle.theorems.specs.ExactOrder.{table, exact-order, Clear, no-row, first-among, clear-rows}
+use Rattle.theorems.specs.ExactOrder.{past, table, exact-order, Clear, no-row, first-among, clear-rows}
 use Rattle.theorems.specs.Refused.{refuses, not-refused}
 use Rattle.theorems.specs.Driven.{reads, blank, three, driven-length}
 use Rattle.theorems.specs.Sent.{sampled-all, sampled-silent, sampled-spread}
@@ -51,12 +51,6 @@ either-answer false r t v e f = f
 neither : (a b : Bool) → (a || b) ≡ false → (a ≡ false) × (b ≡ false)
 neither true b e = untrue (sym e)
 neither false b e = (refl, e)
-
--- past rows of which none holds
-past : (n : ℕ) (rs : List (Bool × Answer)) → Clear (take n rs) → firstOf rs ≡ firstOf (drop n rs)
-past zero rs c = refl
-past (suc n) [] c = refl
-past (suc n) (r ∷ rs) c = rw (c .0) (past n rs (c .1))
 
 module _ (o : Order) (room : List ℕ) (done : buildOf o room .answer ≡ Done) where
   abbrev pub k : Kind

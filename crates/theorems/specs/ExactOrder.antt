@@ -1,9 +1,10 @@
 -- EXACT ORDER (demand 1): the answer is that of the first row of document 01's table that holds, and 0 where none does.
 -- Assumes nothing.
 use mathlib.Core.Path.{_≡_, refl, sym, _∙_}
-use Prim.Native.Nat.{ℕ}
+use Prim.Native.Nat.{ℕ, zero, suc}
 use mathlib.Core.Bool.{Bool, true, false, cond, not, _&&_}
 use mathlib.Core.List.{List, [], _∷_, _++_, map}
+use lib.ListN.{take, drop}
 use Rattle.basis.specs.Truth.{untrue}
 use Rattle.record.specs.declared.Answer.{Answer}
 use Rattle.record.specs.declared.Answer.the-variants.{Done, Size, Sample, State}
@@ -92,3 +93,9 @@ clear-step false v a n e = (refl, e)
 pub clear-rows : (rs : List (Bool × Answer)) → Among (λ v. isDone v ≡ false) rs → isDone (firstOf rs) ≡ true → Clear rs
 clear-rows [] n e = tt
 clear-rows (r ∷ rs) n e = let c = clear-step (r .0) (r .1) (firstOf rs) (n .0) e in (c .0, clear-rows rs (n .1) (c .1))
+
+-- ---- rows that do not hold are passed
+pub past : (n : ℕ) (rs : List (Bool × Answer)) → Clear (take n rs) → firstOf rs ≡ firstOf (drop n rs)
+past zero rs c = refl
+past (suc n) [] c = refl
+past (suc n) (r ∷ rs) c = rw (c .0) (past n rs (c .1))

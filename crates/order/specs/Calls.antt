@@ -1,0 +1,231 @@
+-- One call of an episode: what a memory write and a write enable say and leave, whatever the latch, the arming and memory are. What an episode does to the record and
+-- what it does to memory are two laws here, `write-moves` and `write-stores`.
+-- Assumes nothing.
+use mathlib.Core.Path.{_≡_, refl, ap, _∙_, sym}
+use Prim.Native.Nat.{ℕ, _/_, _≤_}
+use native.Mathlib.Nat.{div-le-self}
+use native.Mathlib.Omega.{arith}
+use mathlib.Core.Bool.{Bool, true, false, cond, not}
+use mathlib.Core.List.{List, [], _++_}
+use lib.Dec.{leb}
+use lib.ListN.{length, take, drop, length-take, length-drop}
+use borrow.Author.Tests.{le-ltb, leb-true}
+use Rattle.basis.specs.Truth.{untrue}
+use Rattle.units.specs.Units.{bytes, perByte}
+use Rattle.opcodes.specs.declared.Kind.{Kind}
+use Rattle.opcodes.specs.declared.Kind.the-variants.{Unknown, WriteMemory}
+use Rattle.commands.specs.declared.plans.Body.{Body}
+use Rattle.commands.specs.declared.plans.Body.the-variants.{Nothing, FixedRead, AnyRead, FixedWrite, AnyWrite}
+use Rattle.counts.specs.declared.Counts.{Counts}
+use Rattle.counts.specs.Counts.{counted}
+use Rattle.record.specs.declared.Answer.{Answer}
+use Rattle.record.specs.declared.Answer.the-variants.{Done, Protected}
+use Rattle.record.specs.declared.Device.{Device}
+use Rattle.record.specs.declared.Setting.{Setting}
+use Rattle.record.specs.Devices.{settingOf}
+use Rattle.record.specs.Latches.{latchMissing, afterBurst}
+use Rattle.record.specs.Changes.{volatileTo, settledOf}
+use Rattle.values.specs.States.{validOf}
+use Rattle.paper.specs.InForce.{unknown, asleepFor, stopped, decided, commandClocks, addressClocks, waitClocks, wiresFor, bodyFor}
+use Rattle.paper.specs.Reading.{after, many, kindRead, dataPart, Parts, partsOf, dataBytes}
+use Rattle.paper.specs.Storing.{Lent, Taken, nothingTaken, takeByte, takeAll}
+use Rattle.paper.specs.Driving.{drivenAt, along}
+use Rattle.paper.specs.Answers.{Facts, fewer, shortData, longRest, unarmed, reservedFor, shutData, rows, judge}
+use Rattle.paper.specs.Transaction.{World, sizedFor, factsOf, isDone, undriven, drivenOf, over, clockedOf, transactOf}
+use Rattle.theorems.specs.ExactOrder.{Clear, past}
+use Rattle.theorems.specs.Driven.{reads, along-zero}
+use Rattle.order.specs.Bursts.{Burst, storeFrom, store, allShut, landed}
+use Rattle.order.specs.Bytes.{data-many, taken-so}
+use Rattle.order.specs.Episodes.{Call, Reply, aimed, MemoryWrite}
+
+-- ---- what a call says, by the setting alone
+abbrev pub countsIn : Parts → Counts
+countsIn p = counted (many (p .commandPart)) (many (p .addressPart)) (many (p .waitPart)) (many (p .dataPart)) (many (p .restPart))
+
+-- clocks that drive nothing
+abbrev pub silence : Parts → List ℕ
+silence p =
+    undriven (p .commandPart)
+    ++ (undriven (p .addressPart)
+    ++ (undriven (p .waitPart)
+    ++ (undriven (p .dataPart)
+    ++ undriven (p .restPart))))
+
+abbrev pub quietly : Setting → Call → Answer → Reply
+quietly s x v =
+    let p = partsOf s (x .samples) in
+    record { answer = v; counts = countsIn p; output = over (silence p) (x .room) }
+
+-- the device with another latch and arming: all of a record that an episode moves
+abbrev pub relatch : Device → Bool → Bool → Device
+relatch d latch armed = volatileTo (d .volatile .mode) latch armed (d .volatile .asleep) (d .volatile .toggle) d
+
+abbrev pub worldAt : Reply → Device → Lent → World
+worldAt r d l = record { answer = r .answer; counts = r .counts; device = d; lent = l; output = r .output }
+
+-- what is not a read drives nothing
+pub quiet : (d : Device) (l : Lent) (p : Parts) (v : Answer) → reads (bodyFor (settingOf d) (p .kind) (p .address)) ≡ false → drivenOf d l p v ≡ silence p
+unfolding drivenOf
+quiet d l p v e =
+    ap (λ (ys : List ℕ). undriven (p .commandPart) ++ (undriven (p .addressPart) ++ (undriven (p .waitPart) ++ (ys ++ undriven (p .restPart)))))
+    (by (isDone v) (bodyFor (settingOf d) (p .kind) (p .address)) e)
+  where
+    by : (done : Bool) (b : Body) → reads b ≡ false → cond done (along (drivenAt b d (p .kind) (p .address) l) 0 (p .dataPart)) (undriven (p .dataPart)) ≡ undriven (p .dataPart)
+    by false b e = refl
+    by true Nothing e = along-zero (p .dataPart) 0
+    by true (FixedRead m) e = untrue (sym e)
+    by true AnyRead e = untrue (sym e)
+    by true (FixedWrite m) e = along-zero (p .dataPart) 0
+    by true AnyWrite e = along-zero (p .dataPart) 0
+
+-- ---- a command that is known has all its clocks
+cond-known : (b : Bool) (k : Kind) → unknown (cond b k Unknown) ≡ false → b ≡ true
+cond-known true k e = refl
+cond-known false k e = untrue (sym e)
+
+command-full : (s : Setting) (xs : List ℕ) → unknown (partsOf s xs .kind) ≡ false → fewer (many (partsOf s xs .commandPart)) (commandClocks s) ≡ false
+unfolding partsOf kindRead
+command-full s xs e =
+    let c = commandClocks s .0 in
+    le-ltb (length (take c xs)) c (leb-true c (length (take c xs)) (cond-known (leb c (length (take c xs))) _ e))
+
+-- ---- the data of a memory write comes after a whole address
+some-left : (n m : ℕ) (xs : List ℕ) → 1 ≤ length (drop m (drop n xs)) → n ≤ length (take n xs)
+some-left n m xs h =
+    let e = length-drop m (drop n xs) in
+    let f = length-drop n xs in
+    let g = length-take n xs in
+    omega arith
+
+whole-pos : (n m : ℕ) → 1 ≤ n / m → 1 ≤ n
+whole-pos n m h = omega (arith, div-le-self n m)
+
+-- ---- a memory write
+module _ (d : Device) (l : Lent) (x : Call) (awake : d .volatile .asleep ≡ false) (w : MemoryWrite (settingOf d) x) where
+  abbrev s : Setting
+  s = settingOf d
+
+  abbrev p : Parts
+  p = partsOf s (x .samples)
+
+  abbrev b : Burst
+  b = aimed s (x .samples)
+
+  known : unknown (p .kind) ≡ false
+  known = ap unknown (w .kind)
+
+  goes : asleepFor s (p .kind) ≡ false
+  unfolding asleepFor
+  goes = rw awake
+
+  body-any : bodyFor s (p .kind) (p .address) ≡ AnyWrite
+  unfolding bodyFor decided stopped
+  body-any = rw (goes, known, w .reach, w .kind)
+
+  data-some : 1 ≤ length (p .dataPart) / perByte (wiresFor s (p .kind))
+  unfolding aimed
+  data-some = rw (← data-many (wiresFor s (p .kind)) (p .dataPart)) (w .some)
+
+  -- the samples after the command, and those after the address
+  abbrev rest : List ℕ
+  rest = drop (commandClocks s .0) (x .samples)
+
+  data-is : p .dataPart ≡ drop (waitClocks s (p .kind) (p .address) .0) (drop (addressClocks s (p .kind) .0) rest)
+  unfolding partsOf
+  data-is = ap (λ (y : Body). dataPart y (wiresFor s (p .kind)) (drop (waitClocks s (p .kind) (p .address) .0) (drop (addressClocks s (p .kind) .0) rest))) body-any
+
+  address-full : fewer (many (p .addressPart)) (addressClocks s (p .kind)) ≡ false
+  unfolding partsOf
+  address-full =
+      let n = addressClocks s (p .kind) .0 in
+      let m = waitClocks s (p .kind) (p .address) .0 in
+      let some : 1 ≤ length (p .dataPart) = whole-pos (length (p .dataPart)) (perByte (wiresFor s (p .kind))) data-some in
+      let h : 1 ≤ length (drop m (drop n rest)) = rw (← data-is) some in
+      le-ltb (length (take n rest)) n (some-left n m rest h)
+
+  -- what its bytes leave
+  abbrev facts : Facts
+  facts = factsOf d l p
+
+  taken-is : facts .taken ≡ record { lent = record { memory = store b (l .memory); area = l .area }; value = nothingTaken l .value; any = not (allShut b) }
+  unfolding factsOf aimed
+  taken-is =
+      let f : Body → Kind → Taken = λ y k. takeAll (takeByte y s k (p .address)) 0 (dataBytes (wiresFor s (p .kind)) (p .dataPart)) (nothingTaken l) in
+      ap (λ (y : Body). f y (p .kind)) body-any ∙ ap (f AnyWrite) (w .kind) ∙ taken-so s (w .way) (p .address) (dataBytes (wiresFor s (p .kind)) (p .dataPart)) l
+
+  -- ---- the answer: 9 where every place is protected, and 0 otherwise
+  abbrev answers : Answer
+  answers = cond (allShut b) Protected Done
+
+  not-not : (a : Bool) → not (not a) ≡ a
+  not-not true = refl
+  not-not false = refl
+
+  module _ (free : latchMissing (s .part) (s .registers .cr4) (d .volatile .latch) (WriteMemory (w .way)) ≡ false) where
+    no-fault : Clear (take 10 (rows s (d .volatile .armed) (d .volatile .latch) facts))
+    unfolding factsOf unarmed
+    no-fault = (
+      command-full s (x .samples) known,
+      (
+        goes,
+        (
+          known,
+          (
+            address-full,
+            (
+              w .reach,
+              (
+                ap (λ (y : Body). shortData y (wiresFor s (p .kind)) (many (p .dataPart))) body-any ∙ le-ltb (length (p .dataPart) / perByte (wiresFor s (p .kind))) 1 data-some,
+                (
+                  ap (λ (y : Body). longRest y (many (p .restPart))) body-any,
+                  (
+                    ap (unarmed (d .volatile .armed)) (w .kind),
+                    (
+                      ap (latchMissing (s .part) (s .registers .cr4) (d .volatile .latch)) (w .kind) ∙ free,
+                      (
+                        ap (λ (k : Kind). reservedFor (s .part) k (facts .taken .value)) (w .kind),
+                        tt,
+                      ),
+                    ),
+                  ),
+                ),
+              ),
+            ),
+          ),
+        ),
+      ),
+    )
+
+    answer-is : judge d facts ≡ answers
+    unfolding judge factsOf
+    answer-is =
+        past 10 (rows s (d .volatile .armed) (d .volatile .latch) facts) no-fault
+        ∙ ap (λ (c : Bool). cond c Protected Done)
+        (ap (λ (y : Body). shutData y (facts .taken .any)) body-any ∙ ap (λ (t : Taken). not (t .any)) taken-is ∙ not-not (allShut b))
+
+    -- THE RECORD after it: disarmed, and the latch as the write mode says, whether it is answered 0 or 9
+    write-moves : settledOf (p .kind) (facts .taken .value) answers d ≡ relatch d (afterBurst (d .registers .cr4) (d .volatile .latch)) false
+    write-moves = by (allShut b)
+      where
+        by : (q : Bool) → settledOf (p .kind) (facts .taken .value) (cond q Protected Done) d ≡ relatch d (afterBurst (d .registers .cr4) (d .volatile .latch)) false
+        by true = refl
+        by false = ap (λ (k : Kind). settledOf k (facts .taken .value) Done d) (w .kind)
+
+    -- MEMORY AND AREA after it
+    write-stores : cond (isDone answers) (facts .taken .lent) l ≡ record { memory = store (landed b) (l .memory); area = l .area }
+    unfolding storeFrom
+    write-stores = by (allShut b)
+      where
+        by : (q : Bool) → cond (isDone (cond q Protected Done)) (facts .taken .lent) l
+            ≡ record { memory = store (record { place = b .place; shut = b .shut; sent = cond q [] (b .sent) }) (l .memory); area = l .area }
+        by true = refl
+        by false = ap (λ (t : Taken). t .lent) taken-is
+
+    -- A MEMORY WRITE, whole
+    pub write-call : sizedFor d l ≡ true → validOf d ≡ true
+        → transactOf d l (x .samples) (x .room)
+        ≡ worldAt (quietly s x answers) (relatch d (afterBurst (d .registers .cr4) (d .volatile .latch)) false) (record { memory = store (landed b) (l .memory); area = l .area })
+    unfolding transactOf clockedOf factsOf
+    write-call sized valid =
+        rw (sized, w .room, w .levels, valid, answer-is)
+        (rw (write-moves, write-stores, quiet d l p answers (ap reads body-any)))

@@ -1,0 +1,318 @@
+-- DEMAND 3: write episodes that touch no place in common may come in any order. Every order leaves the same registers, array and area and gives each episode the
+-- same answers, and each byte holds what its own episode stores. The words of the statement are in Episodes.antt; the theorem is `demand-3`, at the end.
+--
+-- The proof: an episode moves the latch, the arming and memory, and nothing else (`Moving`); what it does to them (`act`) and what it is told (`told`) depend on the
+-- setting and its own samples alone. So a list of episodes is a list of such steps, and steps that touch no place in common commute.
+-- Assumes nothing.
+use mathlib.Core.Path.{_≡_, refl, ap, _∙_, sym, subst}
+use mathlib.Core.Bool.{Bool, true, false, cond, not, _&&_}
+use mathlib.Core.Logic.{∥∥₁-elim}
+use mathlib.Core.List.{List, [], _∷_, map, List·Mem, List·Memᴰ, List·Memᴰ·head, List·Memᴰ·tail, List·Permᴰ, Pairwise, Pairwise·cons, mem-cons-self, mem-cons-of-mem, not-mem-nil}
+use mathlib.Core.HLevel.{Π-prop, ⊥-prop}
+use Prim.Native.Nat.{ℕ, _^_, _<_, _≤_}
+use native.Mathlib.Nat.{ℕ-set, le-trans}
+use lib.Dec.{leb, eqb, lit≤}
+use lib.ListN.{length, getD}
+use borrow.Author.Tests.{leb-true, eqb-true}
+use Rattle.basis.specs.Truth.{cond-same}
+use Rattle.units.specs.declared.Bytes.{Bytes}
+use Rattle.parts.specs.declared.Part.{Part}
+use Rattle.parts.specs.declared.Part.the-variants.{M, P}
+use Rattle.parts.specs.Parts.{knownPart, leastOf, mostOf}
+use Rattle.opcodes.specs.declared.Writing.{Writing}
+use Rattle.opcodes.specs.declared.Kind.the-variants.{WriteMemory}
+use Rattle.record.specs.declared.Answer.{Answer}
+use Rattle.record.specs.declared.Answer.the-variants.{Done, Protected}
+use Rattle.record.specs.declared.Device.{Device}
+use Rattle.record.specs.declared.Setting.{Setting}
+use Rattle.record.specs.Devices.{settingOf}
+use Rattle.record.specs.Latches.{writeMode, latchNeeded, latchMissing, afterBurst}
+use Rattle.values.specs.States.{volatileM, volatileP, registersP, identityP, modeAllowed, validFor, validOf}
+use Rattle.paper.specs.Transaction.{World, sizedFor}
+use Rattle.theorems.specs.Sent.{both-true}
+use Rattle.order.specs.Steps.{runAll, Every, every-one, every-order, any-order}
+use Rattle.order.specs.Bursts.{Burst, storeFrom, store, placesFrom, places, allShut, heldAt, landed}
+use Rattle.order.specs.BurstLaws.{bursts-commute, store-length, store-held, store-kept, store-shut, places-below}
+use Rattle.order.specs.Within.{write-below}
+use Rattle.order.specs.Episodes.{Chip, Call, Reply, called, leaves, says, after, replies, aimed, MemoryWrite, Enabling, Episode, onM, onP, burstOf, touched, Apart, runs, allReplies, Ready, AnyOrder}
+use Rattle.order.specs.Calls.{quietly, relatch, worldAt, write-call}
+use Rattle.order.specs.Steady.{enable-call}
+
+-- ---- what moves
+record Moving : Type 0 where
+  latch : Bool
+  armed : Bool
+  memory : List ℕ
+
+abbrev chipAt : Chip → Moving → Chip
+chipAt c m = record { device = relatch (c .device) (m .latch) (m .armed); lent = record { memory = m .memory; area = c .lent .area } }
+
+-- the latch before the write: part M's enable has put it up
+abbrev risen : Part → Bool → Bool
+risen M latch = true
+risen P latch = latch
+
+-- WHAT AN EPISODE DOES, whatever came before it
+act : Setting → List Call → Moving → Moving
+act s e m =
+    record {
+      latch = afterBurst (s .registers .cr4) (risen (s .part) (m .latch));
+      armed = false;
+      memory = store (landed (burstOf s e)) (m .memory);
+    }
+
+-- WHAT IT IS TOLD
+abbrev answerTo : Setting → Call → Answer
+answerTo s x = cond (allShut (aimed s (x .samples))) Protected Done
+
+told : Setting → List Call → List Reply
+told s [] = []
+told s (x ∷ []) = quietly s x (answerTo s x) ∷ []
+told s (x ∷ y ∷ l) = quietly s x Done ∷ quietly s y (answerTo s y) ∷ []
+
+-- ---- a valid record stays valid: part P's latch is down, and all else that moves may be as it is
+abbrev Fits : Part → Bool → Type 0
+Fits M latch = Unit {0}
+Fits P latch = latch ≡ false
+
+valid-moved : (p : Part) (d : Device) (latch armed latch′ armed′ : Bool) → validFor p (relatch d latch armed) ≡ true → Fits p latch′ → validFor p (relatch d latch′ armed′) ≡ true
+unfolding volatileM volatileP
+valid-moved M d latch armed latch′ armed′ v f = v
+valid-moved P d latch armed latch′ armed′ v f =
+    let x = both-true (registersP (d .registers)) _ v in
+    let y = both-true (volatileP (relatch d latch armed .volatile)) (identityP (d .identity)) (x .1) in
+    let z = both-true (not latch) (not (d .volatile .asleep) && modeAllowed P (d .volatile .mode)) (y .0) in
+    rw (x .0, f, z .1, y .1)
+
+latch-down : (d : Device) (latch armed : Bool) → validFor P (relatch d latch armed) ≡ true → latch ≡ false
+unfolding volatileP
+latch-down d latch armed v =
+    let x = both-true (registersP (d .registers)) _ v in
+    let y = both-true (volatileP (relatch d latch armed .volatile)) (identityP (d .identity)) (x .1) in
+    by latch (both-true (not latch) _ (y .0) .0)
+  where
+    by : (b : Bool) → not b ≡ true → b ≡ false
+    by true e = sym e
+    by false e = refl
+
+after-fits : (p : Part) (cr4 : ℕ) (latch : Bool) → Fits p latch → Fits p (afterBurst cr4 latch)
+after-fits M cr4 latch f = tt
+after-fits P cr4 latch f = rw f (cond-same (eqb (writeMode cr4) 0) false)
+
+-- ---- one episode
+-- the latch is no hindrance once it is up, and on part P never
+up-is-free : (p : Part) (cr4 : ℕ) (z : Writing) → latchMissing p cr4 true (WriteMemory z) ≡ false
+unfolding latchMissing
+up-is-free p cr4 z = by (latchNeeded p cr4 (WriteMemory z))
+  where
+    by : (b : Bool) → (b && false) ≡ false
+    by true = refl
+    by false = refl
+
+P-is-free : (p : Part) (cr4 : ℕ) (latch : Bool) (z : Writing) → p ≡ P → latchMissing p cr4 latch (WriteMemory z) ≡ false
+unfolding latchMissing
+P-is-free p cr4 latch z e = rw e
+
+-- under the paper's rule a burst answered 9 aims at protected places only, so that storing all of it stores nothing
+landed-all : (b : Burst) (l : List ℕ) → store (landed b) l ≡ store b l
+unfolding storeFrom
+landed-all b l = by (allShut b) refl
+  where
+    by : (q : Bool) → allShut b ≡ q → store (record { place = b .place; shut = b .shut; sent = cond q [] (b .sent) }) l ≡ store b l
+    by true e = sym (store-shut b l e)
+    by false e = refl
+
+-- and it touches no more than the burst
+landed-places : (b : Burst) (a : ℕ) → List·Mem a (places (landed b)) → List·Mem a (places b)
+unfolding placesFrom
+landed-places b a m = by (allShut b) m
+  where
+    by : (q : Bool) → List·Mem a (places (record { place = b .place; shut = b .shut; sent = cond q [] (b .sent) })) → List·Mem a (places b)
+    by true m = absurd (not-mem-nil m)
+    by false m = m
+
+module _ (c : Chip) (r : Ready c) where
+  abbrev d : Device
+  d = c .device
+
+  abbrev s : Setting
+  s = settingOf d
+
+  -- a state that episodes reach
+  record Fit (m : Moving) : Type 0 where
+    long : length (m .memory) ≡ length (c .lent .memory)
+    valid : validFor (s .part) (relatch d (m .latch) (m .armed)) ≡ true
+
+  sized-at : (latch armed : Bool) (memory : List ℕ) → length memory ≡ length (c .lent .memory)
+      → sizedFor (relatch d latch armed) (record { memory = memory; area = c .lent .area }) ≡ true
+  unfolding sizedFor
+  sized-at latch armed memory e = rw e (r .sized)
+
+  risen-fits : (m : Moving) → Fit m → Fits (s .part) (risen (s .part) (m .latch))
+  risen-fits m f = by (s .part) (f .valid)
+    where
+      by : (p : Part) → validFor p (relatch d (m .latch) (m .armed)) ≡ true → Fits p (risen p (m .latch))
+      by M v = tt
+      by P v = latch-down d (m .latch) (m .armed) v
+
+  -- the write of an episode, the latch being as the episode needs it
+  write-step : (latch armed : Bool) (memory : List ℕ) → length memory ≡ length (c .lent .memory) → validFor (s .part) (relatch d latch armed) ≡ true
+      → (x : Call) (w : MemoryWrite s x) → latchMissing (s .part) (s .registers .cr4) latch (WriteMemory (w .way)) ≡ false
+      → called (chipAt c (record { latch = latch; armed = armed; memory = memory })) x
+      ≡ worldAt (quietly s x (answerTo s x)) (relatch d (afterBurst (s .registers .cr4) latch) false)
+      (record { memory = store (landed (aimed s (x .samples))) memory; area = c .lent .area })
+  unfolding validOf
+  write-step latch armed memory long valid x w free =
+      write-call (relatch d latch armed) (record { memory = memory; area = c .lent .area }) x (r .awake) w free (sized-at latch armed memory long) valid
+
+  enable-step : (m : Moving) → Fit m → (x : Call) → Enabling c x
+      → called (chipAt c m) x ≡ worldAt (quietly s x Done) (relatch d true false) (record { memory = m .memory; area = c .lent .area })
+  unfolding validOf
+  enable-step m f x q =
+      enable-call d (c .lent) x (q .kind) (q .done) (m .latch) (m .armed) (record { memory = m .memory; area = c .lent .area })
+      (sized-at (m .latch) (m .armed) (m .memory) (f .long)) (f .valid)
+
+  -- after part M's enable
+  enabled-valid : (m : Moving) → Fit m → s .part ≡ M → validFor (s .part) (relatch d true false) ≡ true
+  enabled-valid m f e = valid-moved (s .part) d (m .latch) (m .armed) true false (f .valid) (subst (λ (p : Part). Fits p true) (sym e) tt)
+
+  risen-M : (latch : Bool) (p : Part) → p ≡ M → risen p latch ≡ true
+  risen-M latch p e = rw e
+
+  risen-P : (latch : Bool) (p : Part) → p ≡ P → risen p latch ≡ latch
+  risen-P latch p e = rw e
+
+  -- AN EPISODE ACTS, and is told, by the setting and its samples alone
+  episode-acts : {e : List Call} → Episode c e → (m : Moving) → Fit m → after (chipAt c m) e ≡ chipAt c (act s e m)
+  unfolding after act
+  episode-acts (onM {en} {wr} p q w) m f =
+      ap (λ (z : World). leaves (called (leaves z) wr)) (enable-step m f en q)
+      ∙ ap leaves (write-step true false (m .memory) (f .long) (enabled-valid m f p) wr w (up-is-free (s .part) (s .registers .cr4) (w .way)))
+      ∙ rw (risen-M (m .latch) (s .part) p)
+  episode-acts (onP {wr} p w) m f =
+      ap leaves (write-step (m .latch) (m .armed) (m .memory) (f .long) (f .valid) wr w (P-is-free (s .part) (s .registers .cr4) (m .latch) (w .way) p))
+      ∙ rw (risen-P (m .latch) (s .part) p)
+
+  episode-told : {e : List Call} → Episode c e → (m : Moving) → Fit m → replies (chipAt c m) e ≡ told s e
+  unfolding replies told
+  episode-told (onM {en} {wr} p q w) m f =
+      ap (λ (z : World). says z ∷ says (called (leaves z) wr) ∷ []) (enable-step m f en q)
+      ∙ ap (λ (z : World). quietly s en Done ∷ says z ∷ [])
+      (write-step true false (m .memory) (f .long) (enabled-valid m f p) wr w (up-is-free (s .part) (s .registers .cr4) (w .way)))
+  episode-told (onP {wr} p w) m f =
+      ap (λ (z : World). says z ∷ [])
+      (write-step (m .latch) (m .armed) (m .memory) (f .long) (f .valid) wr w (P-is-free (s .part) (s .registers .cr4) (m .latch) (w .way) p))
+
+  -- and leaves a state that episodes reach
+  act-fit : (e : List Call) {m : Moving} → Fit m → Fit (act s e m)
+  unfolding act
+  act-fit e {m} f =
+      record {
+        long = store-length (landed (burstOf s e)) (m .memory) ∙ f .long;
+        valid = valid-moved (s .part) d (m .latch) (m .armed) _ false (f .valid) (after-fits (s .part) (s .registers .cr4) _ (risen-fits m f));
+      }
+
+  -- ---- a list of episodes
+  abbrev Episodes : List (List Call) → Type 0
+  Episodes l = Every (Episode c) l
+
+  run-acts : (l : List (List Call)) → Episodes l → (m : Moving) → Fit m → runs (chipAt c m) l ≡ chipAt c (runAll (act s) m l)
+  run-acts [] h m f = refl
+  run-acts (e ∷ l) h m f =
+      ap (λ (k : Chip). runs k l) (episode-acts (h .0) m f) ∙ run-acts l (h .1) (act s e m) (act-fit e f)
+
+  run-told : (l : List (List Call)) → Episodes l → (m : Moving) → Fit m → allReplies (chipAt c m) l ≡ map (told s) l
+  unfolding allReplies
+  run-told [] h m f = refl
+  run-told (e ∷ l) h m f =
+      rw (episode-told (h .0) m f, episode-acts (h .0) m f, run-told l (h .1) (act s e m) (act-fit e f))
+
+  alone-told : (l : List (List Call)) → Episodes l → (m : Moving) → Fit m → map (replies (chipAt c m)) l ≡ map (told s) l
+  alone-told [] h m f = refl
+  alone-told (e ∷ l) h m f = rw (episode-told (h .0) m f, alone-told l (h .1) m f)
+
+  run-fit : (l : List (List Call)) (m : Moving) → Fit m → Fit (runAll (act s) m l)
+  run-fit [] m f = f
+  run-fit (e ∷ l) m f = run-fit l (act s e m) (act-fit e f)
+
+  -- ---- steps that touch no place in common commute
+  acts-commute : (e f : List Call) (m : Moving) → Apart s e f → act s f (act s e m) ≡ act s e (act s f m)
+  unfolding act
+  acts-commute e f m n =
+      rw (bursts-commute (landed (burstOf s e)) (landed (burstOf s f)) (m .memory) (λ a p q. n a (landed-places (burstOf s e) a p) (landed-places (burstOf s f) a q)))
+
+  -- ---- one byte
+  act-held : (e : List Call) (m : Moving) → Fit m → (a : ℕ) → a < length (c .lent .memory)
+      → getD (act s e m .memory) a 0 ≡ heldAt (burstOf s e) a (getD (m .memory) a 0)
+  unfolding act
+  act-held e m f a h = rw (landed-all (burstOf s e) (m .memory)) (store-held (burstOf s e) (m .memory) a (rw (f .long) h))
+
+  act-kept : (e : List Call) (m : Moving) (a : ℕ) → (List·Mem a (touched s e) → ⊥) → getD (act s e m .memory) a 0 ≡ getD (m .memory) a 0
+  unfolding act
+  act-kept e m a n = store-kept (landed (burstOf s e)) (m .memory) a (λ p. n (landed-places (burstOf s e) a p))
+
+  run-kept : (l : List (List Call)) (m : Moving) (a : ℕ) → ((e : List Call) → List·Mem e l → List·Mem a (touched s e) → ⊥)
+      → getD (runAll (act s) m l .memory) a 0 ≡ getD (m .memory) a 0
+  run-kept [] m a n = refl
+  run-kept (e ∷ l) m a n = run-kept l (act s e m) a (λ x k. n x (mem-cons-of-mem e k)) ∙ act-kept e m a (n e mem-cons-self)
+
+  run-held : (l : List (List Call)) → Pairwise (Apart s) l → {e : List Call} → List·Memᴰ e l → (m : Moving) → Fit m → (a : ℕ) → a < length (c .lent .memory)
+      → List·Mem a (touched s e) → getD (runAll (act s) m l .memory) a 0 ≡ heldAt (burstOf s e) a (getD (m .memory) a 0)
+  run-held (b ∷ l) (Pairwise·cons h t) {e} (List·Memᴰ·head p) m f a i k =
+      run-kept l (act s b m) a (λ x q. h x q a (subst (λ (z : List Call). List·Mem a (touched s z)) p k))
+      ∙ act-held b m f a i
+      ∙ ap (λ (z : List Call). heldAt (burstOf s z) a (getD (m .memory) a 0)) (sym p)
+  run-held (b ∷ l) (Pairwise·cons h t) {e} (List·Memᴰ·tail q) m f a i k =
+      run-held l t q (act s b m) (act-fit b f) a i k ∙ ap (heldAt (burstOf s e) a) (act-kept b m a (λ g. h e ∣ q ∣₁ a g k))
+
+  -- ---- every touched place is in memory
+  sizes : (9 ≤ s .n) × (length (c .lent .memory) ≡ 2 ^ s .n)
+  unfolding sizedFor
+  sizes =
+      let h₁ = both-true (knownPart (d .part)) _ (r .sized) .1 in
+      let h₂ = both-true (leb (leastOf (s .part)) (s .n)) _ h₁ in
+      let h₃ = both-true (leb (s .n) (mostOf (s .part))) _ (h₂ .1) .1 in
+      let h₄ = both-true (eqb (length (c .lent .memory)) (2 ^ s .n)) _ h₃ .0 in
+      (le-trans (least (s .part)) (leb-true (leastOf (s .part)) (s .n) (h₂ .0)), eqb-true (length (c .lent .memory)) (2 ^ s .n) h₄)
+    where
+      least : (p : Part) → 9 ≤ leastOf p
+      least M = lit≤ tt
+      least P = lit≤ tt
+
+  burst-below : (e : List Call) (i : Bytes) → burstOf s e .place i < 2 ^ s .n
+  unfolding aimed
+  burst-below [] i = write-below s (sizes .0) _ i
+  burst-below (x ∷ []) i = write-below s (sizes .0) _ i
+  burst-below (x ∷ y ∷ l) i = burst-below (y ∷ l) i
+
+  touched-in : (e : List Call) (a : ℕ) → List·Mem a (touched s e) → a < length (c .lent .memory)
+  touched-in e a m = rw (sizes .1) (places-below (burstOf s e) (2 ^ s .n) (burst-below e) a m)
+
+-- DEMAND 3. The device is awake and in any valid state, what is lent has its size; every item of the list is an episode; no two of them touch a place in common.
+pub demand-3 : (c : Chip) → Ready c → {l₁ l₂ : List (List Call)} → List·Permᴰ l₁ l₂ → Every (Episode c) l₁
+    → Pairwise (Apart (settingOf (c .device))) l₁ → AnyOrder c l₁ l₂
+unfolding validOf
+demand-3 c r {l₁} {l₂} order episodes apart =
+    let s = settingOf (c .device) in
+    let m : Moving = record { latch = c .device .volatile .latch; armed = c .device .volatile .armed; memory = c .lent .memory } in
+    let f : Fit c r m = record { long = refl; valid = r .valid } in
+    let episodes₂ : Every (Episode c) l₂ = every-order (Episode c) order episodes in
+    let own : (e : List Call) → List·Mem e l₁ → (a : ℕ) → a < length (c .lent .memory)
+    → getD (after c e .lent .memory) a 0 ≡ heldAt (burstOf s e) a (getD (c .lent .memory) a 0) =
+    λ e k a i. ∥∥₁-elim k (ℕ-set _ _) (λ q. ap (λ (z : Chip). getD (z .lent .memory) a 0) (episode-acts c r (every-one (Episode c) q episodes) m f) ∙ act-held c r e m f a i) in
+    let ran = run-acts c r l₁ episodes m f in
+    record {
+      same =
+          ran
+          ∙ ap (chipAt c) (any-order (act s) (λ e g. Π-prop (λ a. Π-prop (λ p. Π-prop (λ q. ⊥-prop)))) (λ e g n a p q. n a q p) (acts-commute c r) order apart m)
+          ∙ sym (run-acts c r l₂ episodes₂ m f);
+      first = run-told c r l₁ episodes m f ∙ sym (alone-told c r l₁ episodes m f);
+      second = run-told c r l₂ episodes₂ m f ∙ sym (alone-told c r l₂ episodes₂ m f);
+      alone = λ e k a t.
+          let i = touched-in c r e a t in
+          ap (λ (z : Chip). getD (z .lent .memory) a 0) ran ∙ ∥∥₁-elim k (ℕ-set _ _) (λ q. run-held c r l₁ apart q m f a i t) ∙ sym (own e k a i);
+      held = λ e k a t. own e k a (touched-in c r e a t);
+      old = λ a n. ap (λ (z : Chip). getD (z .lent .memory) a 0) ran ∙ run-kept c r l₁ m a n;
+      size = ap (λ (z : Chip). length (z .lent .memory)) ran ∙ run-fit c r l₁ m f .long;
+      area = ap (λ (z : Chip). z .lent .area) ran;
+    }

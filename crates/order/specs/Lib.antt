@@ -1,0 +1,12 @@
+pub mod Steps
+pub mod Bursts
+pub mod BurstLaws
+pub mod Within
+pub mod Episodes
+pub mod Bytes
+pub mod Calls
+pub mod Steady
+pub mod Demand3
+pub mod Programs
+pub mod Disjoint
+pub mod Examples
