@@ -1,9 +1,9 @@
 -- What a computed test tells of its parts.
 -- Assumes nothing.
-use mathlib.Core.Path.{_≡_, refl, ap}
+use mathlib.Core.Path.{_≡_, refl, sym, ap}
 use Prim.Native.Nat.{ℕ}
 use native.Mathlib.Omega.{arith}
-use mathlib.Core.Bool.{Bool, true, false, cond, _&&_}
+use mathlib.Core.Bool.{Bool, true, false, cond, _&&_, _||_}
 use lib.Dec.{T}
 
 pub both : (a b : Bool) → T (a && b) → T a × T b
@@ -17,3 +17,12 @@ untrue e = let z : _≡_ {A = ℕ} 0 1 = ap (λ (b : Bool). cond {A = ℕ} b 1 0
 pub cond-same : {A : Type 0} (b : Bool) (x : A) → cond b x x ≡ x
 cond-same true x = refl
 cond-same false x = refl
+
+-- what two tests together tell of each
+pub both-true : (a b : Bool) → (a && b) ≡ true → (a ≡ true) × (b ≡ true)
+both-true true b e = (refl, e)
+both-true false b e = untrue e
+
+pub neither : (a b : Bool) → (a || b) ≡ false → (a ≡ false) × (b ≡ false)
+neither true b e = untrue (sym e)
+neither false b e = (refl, e)

@@ -1,16 +1,16 @@
 -- Laws of the checks before a transaction.
 -- Assumes nothing.
-use mathlib.Core.Path.{_≡_, refl}
+use mathlib.Core.Path.{_≡_}
 use Prim.Native.Nat.{ℕ, _+_, _<_, _≤_}
 use native.Mathlib.Nat.{le-trans}
 use native.Mathlib.Numerals.{add-one}
-use mathlib.Core.Bool.{Bool, true, false, _&&_}
+use mathlib.Core.Bool.{true, false}
 use mathlib.Core.List.{List}
 use lib.Dec.{lit≤, leb}
 use lib.ListN.{length, getD, drop, drop-of-length-le}
 use lib.Seq.{drop-cons}
 use borrow.Author.Tests.{lt-ltb, le-ltb, leb-true}
-use Rattle.basis.specs.Truth.{untrue}
+use Rattle.basis.specs.Truth.{both-true}
 use Rattle.parts.specs.declared.Part.{Part}
 use Rattle.parts.specs.declared.Part.the-variants.{M, P}
 use Rattle.parts.specs.Parts.{partOf, knownPart, leastOf, mostOf}
@@ -25,20 +25,12 @@ most-le M = lit≤ tt
 most-le P = lit≤ tt
 
 -- what the checks of sizes tell
-and-left : (a b : Bool) → (a && b) ≡ true → a ≡ true
-and-left true b e = refl
-and-left false b e = e
-
-and-right : (a b : Bool) → (a && b) ≡ true → b ≡ true
-and-right true b e = e
-and-right false b e = untrue e
-
 pub sized-reach : (d : Device) (l : Lent) → sizedFor d l ≡ true → d .n ≤ 24
 unfolding sizedFor
 sized-reach d l e =
     let p = partOf (d .part) in
-    let rest = and-right (leb (leastOf p) (d .n)) _ (and-right (knownPart (d .part)) _ e) in
-    le-trans (leb-true (d .n) (mostOf p) (and-left (leb (d .n) (mostOf p)) _ rest)) (most-le p)
+    let rest = both-true (leb (leastOf p) (d .n)) _ (both-true (knownPart (d .part)) _ e .1) .1 in
+    le-trans (leb-true (d .n) (mostOf p) (both-true (leb (d .n) (mostOf p)) _ rest .0)) (most-le p)
 
 -- and all that the clocks ask
 pub passed : (d : Device) (l : Lent) (xs out : List ℕ) → sizedFor d l ≡ true → roomFor xs out ≡ true → Passed d xs out
@@ -46,8 +38,8 @@ unfolding roomFor
 passed d l xs out s r =
     record {
       reach = sized-reach d l s;
-      few = leb-true (length xs) 65535 (and-left _ _ r);
-      room = leb-true (length xs) (length out) (and-right (leb (length xs) 65535) _ r);
+      few = leb-true (length xs) 65535 (both-true (leb (length xs) 65535) _ r .0);
+      room = leb-true (length xs) (length out) (both-true (leb (length xs) 65535) _ r .1);
     }
 
 -- a scan for a sample above 15: what is left of the samples decides

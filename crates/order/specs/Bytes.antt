@@ -2,19 +2,17 @@
 -- burst knows memory alone.
 -- Assumes nothing.
 use mathlib.Core.Path.{_≡_, refl, ap, _∙_}
-use Prim.Native.Nat.{ℕ, zero, suc, _+_, _/_}
+use Prim.Native.Nat.{ℕ, _+_}
 use mathlib.Core.Bool.{Bool, true, false, cond, not, _||_, _&&_}
 use mathlib.Core.List.{List, [], _∷_}
-use lib.ListN.{length, set, drop}
-use Rattle.units.specs.declared.Wires.{Wires}
-use Rattle.units.specs.Units.{bytes, perByte}
+use lib.ListN.{set}
+use Rattle.units.specs.Units.{bytes}
 use Rattle.opcodes.specs.declared.Writing.{Writing}
 use Rattle.opcodes.specs.declared.Kind.the-variants.{WriteMemory}
 use Rattle.commands.specs.declared.plans.Body.the-variants.{AnyWrite}
 use Rattle.record.specs.declared.Setting.{Setting}
 use Rattle.places.specs.Places.{writePlace}
 use Rattle.places.specs.Protection.{protectedOf}
-use Rattle.paper.specs.Reading.{bytesIn, dataBytes}
 use Rattle.paper.specs.Storing.{Lent, protectedAt, putAt, Taken, nothingTaken, takeByte, takeAll}
 use Rattle.order.specs.Bursts.{Burst, storeOne, storeFrom, store, shutFrom, allShut}
 
@@ -31,16 +29,6 @@ or-step : (a p q : Bool) → ((a || not p) || not q) ≡ (a || not (p && q))
 or-step true p q = refl
 or-step false true q = refl
 or-step false false q = refl
-
--- as many bytes as were gathered
-bytes-many : (w : Wires) (n : ℕ) (xs : List ℕ) → length (bytesIn w n xs) ≡ n
-unfolding bytesIn
-bytes-many w zero xs = refl
-bytes-many w (suc n) xs = ap suc (bytes-many w n (drop (perByte w) xs))
-
-pub data-many : (w : Wires) (xs : List ℕ) → length (dataBytes w xs) ≡ length xs / perByte w
-unfolding dataBytes
-data-many w xs = bytes-many w (length xs / perByte w) xs
 
 module _ (s : Setting) (z : Writing) (a : ℕ) (sent : List ℕ) where
   abbrev b : Burst

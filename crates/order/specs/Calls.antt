@@ -28,6 +28,7 @@ use Rattle.record.specs.Changes.{volatileTo, settledOf}
 use Rattle.values.specs.States.{validOf}
 use Rattle.paper.specs.InForce.{unknown, asleepFor, stopped, decided, commandClocks, addressClocks, waitClocks, wiresFor, bodyFor}
 use Rattle.paper.specs.Reading.{after, many, kindRead, dataPart, Parts, partsOf, dataBytes}
+use Rattle.paper.specs.Laws.{data-many}
 use Rattle.paper.specs.Storing.{Lent, Taken, nothingTaken, takeByte, takeAll}
 use Rattle.paper.specs.Driving.{drivenAt, along}
 use Rattle.paper.specs.Answers.{Facts, fewer, shortData, longRest, unarmed, reservedFor, shutData, rows, judge}
@@ -35,7 +36,7 @@ use Rattle.paper.specs.Transaction.{World, sizedFor, factsOf, isDone, undriven,
 use Rattle.theorems.specs.ExactOrder.{Clear, past}
 use Rattle.theorems.specs.Driven.{reads, along-zero}
 use Rattle.order.specs.Bursts.{Burst, storeFrom, store, allShut, landed}
-use Rattle.order.specs.Bytes.{data-many, taken-so}
+use Rattle.order.specs.Bytes.{taken-so}
 use Rattle.order.specs.Episodes.{Call, Reply, aimed, MemoryWrite}
 
 -- ---- what a call says, by the setting alone

@@ -14,7 +14,7 @@ use native.Mathlib.Nat.{ℕ-set, le-trans}
 use lib.Dec.{leb, eqb, lit≤}
 use lib.ListN.{length, getD}
 use borrow.Author.Tests.{leb-true, eqb-true}
-use Rattle.basis.specs.Truth.{cond-same}
+use Rattle.basis.specs.Truth.{both-true, cond-same}
 use Rattle.units.specs.declared.Bytes.{Bytes}
 use Rattle.parts.specs.declared.Part.{Part}
 use Rattle.parts.specs.declared.Part.the-variants.{M, P}
@@ -29,7 +29,6 @@ use Rattle.record.specs.Devices.{settingOf}
 use Rattle.record.specs.Latches.{writeMode, latchNeeded, latchMissing, afterBurst}
 use Rattle.values.specs.States.{volatileM, volatileP, registersP, identityP, modeAllowed, validFor, validOf}
 use Rattle.paper.specs.Transaction.{World, sizedFor}
-use Rattle.theorems.specs.Sent.{both-true}
 use Rattle.order.specs.Steps.{runAll, Every, every-one, every-order, any-order}
 use Rattle.order.specs.Bursts.{Burst, storeFrom, store, placesFrom, places, allShut, heldAt, landed}
 use Rattle.order.specs.BurstLaws.{bursts-commute, store-length, store-held, store-kept, store-shut, places-below}

@@ -8,9 +8,8 @@ use mathlib.Core.List.{List, [], _∷_, List·Mem, List·Memᴰ, List·Memᴰ·h
 use Prim.Native.Nat.{ℕ}
 use lib.Dec.{eqb}
 use borrow.Author.Tests.{eq-eqb}
-use Rattle.basis.specs.Truth.{untrue}
+use Rattle.basis.specs.Truth.{both-true, untrue}
 use Rattle.record.specs.declared.Setting.{Setting}
-use Rattle.theorems.specs.Sent.{both-true}
 use Rattle.order.specs.Episodes.{Call, touched, Apart}
 
 -- a is one of them

@@ -6,4 +6,5 @@ pub mod Answers
 pub mod Transaction
 pub mod Building
 pub mod Collecting
+pub mod Laws
 pub mod Examples

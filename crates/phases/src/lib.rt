@@ -122,7 +122,8 @@ pub fn wires_for(s: Setting, k: Kind) -> Wires
     later_wires(k, w)
 }
 
-fn address_length(a: Address, w: Wires) -> Clocks
+// The clocks of an address, where there is one.
+pub fn address_length(a: Address, w: Wires) -> Clocks
     ensures { λ r. ⌜ r ≡ addressLength a w ⌝ }
 {
     match a {

@@ -2,32 +2,10 @@
 // comes back. What finds no room is left out, and the place stays.
 ghost use mathlib.Core.Path.{_≡_};
 ghost use mathlib.Core.List.{map};
-ghost use Rattle.text.specs.Page.{page, putOf, putsOf, upperOf};
-
-// One byte.
-pub fn put(text: &mut [u8], at: usize, b: u8) -> usize
-    ensures { λ r. ⌜ page r (now (text .exit)) ≡ putOf b (page at (now (text .entry))) ⌝ }
-{
-    if at < text.len() {
-        text[at] = b;
-        return at + 1;
-    }
-    at
-}
-
-// Bytes, one after the other.
-pub fn put_all(text: &mut [u8], at: usize, bytes: &[u8]) -> usize
-    ensures { λ r. ⌜ page r (now (text .exit)) ≡ putsOf (now (bytes .entry)) (page at (now (text .entry))) ⌝ }
-{
-    let mut to = at;
-    let mut i = 0;
-    while i < bytes.len() {
-        let b = bytes[i];
-        to = put(text, to, b);
-        i += 1;
-    }
-    to
-}
+ghost use Rattle.pages.specs.Page.{page, putsOf};
+ghost use Rattle.text.specs.Upper.{upperOf};
+pub use pages::put;
+pub use pages::put_all;
 
 // A number in decimal.
 pub fn put_decimal(text: &mut [u8], at: usize, v: u64) -> usize {

@@ -3,13 +3,13 @@
 use mathlib.Core.Path.{_≡_, refl, sym, ap, _∙_}
 use Prim.Native.Nat.{ℕ, _+_, _*_, _<_, _≤_}
 use native.Mathlib.Omega.{arith}
-use mathlib.Core.Bool.{Bool, true, false, cond, _||_}
+use mathlib.Core.Bool.{Bool, true, false, cond}
 use mathlib.Core.List.{List, _++_}
 use lib.Dec.{ltb}
 use lib.ListN.{length, take, drop}
 use lib.Seq.{take-at}
 use borrow.Author.Tests.{le-leb, le-ltb, ltb-false}
-use Rattle.basis.specs.Truth.{untrue}
+use Rattle.basis.specs.Truth.{untrue, neither}
 use Rattle.units.specs.declared.Clocks.{Clocks}
 use Rattle.units.specs.declared.Bytes.{Bytes}
 use Rattle.units.specs.declared.Wires.{Wires}
@@ -47,10 +47,6 @@ use Rattle.theorems.specs.Meant.{Spelled, Meant, Ready, sent, faultless}
 either-answer : {U : Type 0} (b : Bool) (r t : Told U) (v : Answer) → r .answer ≡ v → t .answer ≡ v → cond b r t .answer ≡ v
 either-answer true r t v e f = e
 either-answer false r t v e f = f
-
-neither : (a b : Bool) → (a || b) ≡ false → (a ≡ false) × (b ≡ false)
-neither true b e = untrue (sym e)
-neither false b e = (refl, e)
 
 module _ (o : Order) (room : List ℕ) (done : buildOf o room .answer ≡ Done) where
   abbrev pub k : Kind

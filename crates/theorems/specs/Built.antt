@@ -34,10 +34,11 @@ use Rattle.places.specs.Addresses.{allowedOf}
 use Rattle.paper.specs.InForce.{unknown, asleepFor, refusedAt, stopped, decided, addressLength, commandClocks, wiresFor, addressClocks, waitClocks, bodyFor}
 use Rattle.paper.specs.Reading.{many, kindRead, addressRead, dataPart, restPart, partsOf, dataBytes}
 use Rattle.paper.specs.Answers.{shortData, longRest}
+use Rattle.paper.specs.Laws.{sent-many}
 use Rattle.paper.specs.Transaction.{sampled}
 use Rattle.paper.specs.Building.{Order, manyBytes, sentOn, kindAsked, asked, addressed, beyond, waitsByRegister, tooFew, tooMany, spreadAll, silent, dataSent, builtOf}
 use Rattle.theorems.specs.Driven.{reads, blank}
-use Rattle.theorems.specs.Sent.{bytewise, sampled-silent, sampled-data, byte-read, address-read, data-length, data-read}
+use Rattle.theorems.specs.Sent.{bytewise, sampled-silent, sampled-data, byte-read, address-read, data-read}
 use Rattle.theorems.specs.Planned.{addressIn, allowed-in, body-in, wait-by, Alike}
 
 -- ---- the setting of a device that an order is for
@@ -219,7 +220,7 @@ take-blank (suc n) (suc m) = ap (λ (l : List ℕ). 0 ∷ l) (take-blank n m) �
 
 -- so many bytes are what their clocks carry
 whole-data : (w : Wires) (bs : List ℕ) → length (spreadAll w bs) / perByte w ≡ length bs
-whole-data w bs = rw (data-length w bs) (mul-div-cancel (length bs) (perByte-pos w))
+whole-data w bs = rw (sent-many w bs) (mul-div-cancel (length bs) (perByte-pos w))
 
 module _ (w : Wires) (o : Order) (h : bytewise (o .written) ≡ true) where
   pub carried : (b a : Body) → Alike b a → tooFew a (o .wanted) (manyBytes (o .written)) ≡ false → tooMany a (o .wanted) (manyBytes (o .written)) ≡ false
@@ -240,7 +241,7 @@ module _ (w : Wires) (o : Order) (h : bytewise (o .written) ≡ true) where
       let few₁ = rw e at few in
       let lots₁ = rw e at lots in
       let l : length xs ≡ b .0 * perByte w =
-      data-length w (o .written) ∙ ap (λ (n : ℕ). n * perByte w) (omega (arith, ltb-false (length (o .written)) (b .0) few₁, ltb-false (b .0) (length (o .written)) lots₁)) in
+      sent-many w (o .written) ∙ ap (λ (n : ℕ). n * perByte w) (omega (arith, ltb-false (length (o .written)) (b .0) few₁, ltb-false (b .0) (length (o .written)) lots₁)) in
       let t : take (b .0 * perByte w) xs ≡ xs = take-all (b .0 * perByte w) xs (omega arith) in
       let r : drop (b .0 * perByte w) xs ≡ [] = drop-of-length-le xs {i = b .0 * perByte w} (omega arith) in
       rw e (record {

@@ -8,6 +8,7 @@ use mathlib.Core.List.{List, [], _∷_}
 use lib.Dec.{ltb, lit<}
 use lib.ListN.{getD, replicate}
 use borrow.Author.Tests.{ltb-true}
+use Rattle.basis.specs.Truth.{both-true}
 use Rattle.units.specs.declared.Bytes.{Bytes}
 use Rattle.opcodes.specs.declared.Register.{Register}
 use Rattle.opcodes.specs.declared.Register.the-variants.{Status, AreaProtection, Configuration1, Configuration2, Configuration3, Configuration4, Configurations, Identity, Unique, Serial, ModeRegister, LongIdentity}
@@ -22,7 +23,7 @@ use Rattle.record.specs.Shows.{statusShown, shownByte}
 use Rattle.places.specs.Places.{readPlace, areaPlace}
 use Rattle.paper.specs.Storing.{Lent}
 use Rattle.paper.specs.Driving.{mappedByte, byteRead}
-use Rattle.theorems.specs.Sent.{bytewise, both-true}
+use Rattle.theorems.specs.Sent.{bytewise}
 
 -- every number in a record and in what is lent with it is a byte
 pub record Bytewise (d : Device) (l : Lent) : Type 0 where

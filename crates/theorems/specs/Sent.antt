@@ -1,17 +1,17 @@
 -- What the host sends, phase by phase, as the device gathers it: the laws behind Understood.antt.
 -- Assumes nothing.
-use mathlib.Core.Path.{_≡_, refl, sym, ap, _∙_}
+use mathlib.Core.Path.{_≡_, refl, ap, _∙_}
 use Prim.Native.Nat.{ℕ, zero, suc, _*_, _/_, _^_, _<_, _≤_}
-use native.Mathlib.Nat.{zero-mul, suc-mul, mod-lt, mul-div-cancel, lt-of-lt-of-le}
+use native.Mathlib.Nat.{mod-lt, mul-div-cancel, lt-of-lt-of-le}
 use native.Mathlib.Omega.{arith}
-use mathlib.Core.Bool.{Bool, true, false, _&&_}
+use mathlib.Core.Bool.{Bool, true, _&&_}
 use mathlib.Core.List.{List, [], _∷_, _++_}
 use lib.Dec.{ltb}
 use lib.Pow.{pow-pos}
-use lib.ListN.{length, replicate, length-append}
+use lib.ListN.{length, replicate}
 use lib.Seq.{take-at, drop-at}
 use borrow.Author.Tests.{ltb-true, lt-ltb}
-use Rattle.basis.specs.Truth.{untrue}
+use Rattle.basis.specs.Truth.{both-true}
 use Rattle.units.specs.declared.Wires.{Wires}
 use Rattle.units.specs.declared.Wires.the-variants.{One, Two, Four}
 use Rattle.units.specs.Units.{bytes, wiresOf, perByte}
@@ -20,17 +20,13 @@ use Rattle.wires.specs.Bits.{gather, above, spread}
 use Rattle.wires.specs.Laws.{spread-length, gather-spread}
 use Rattle.paper.specs.Reading.{bytesIn, dataBytes}
 use Rattle.paper.specs.Building.{spreadAll}
+use Rattle.paper.specs.Laws.{sent-many}
 use Rattle.paper.specs.Transaction.{sampled}
 
 -- every number of the list is a byte
 unfoldable pub bytewise : List ℕ → Bool
 bytewise [] = true
 bytewise (b ∷ bs) = ltb b 256 && bytewise bs
-
--- both of two tests
-pub both-true : (a b : Bool) → (a && b) ≡ true → (a ≡ true) × (b ≡ true)
-both-true true b e = (refl, e)
-both-true false b e = untrue e
 
 -- ---- every sample that is sent is one of 0 to 15
 sampled-append : (xs ys : List ℕ) → sampled xs ≡ true → sampled ys ≡ true → sampled (xs ++ ys) ≡ true
@@ -78,13 +74,6 @@ pub address-read : (w : Wires) (a : ℕ) → a < 2 ^ 24 → gather w (spread w (
 address-read w a h = gather-spread w (3 * perByte w) a (rw (three-bytes w) (omega arith)) (rw (three-bytes w) h)
 
 -- ---- data
-pub data-length : (w : Wires) (bs : List ℕ) → length (spreadAll w bs) ≡ length bs * perByte w
-unfolding spreadAll
-data-length w [] = sym (zero-mul (perByte w))
-data-length w (b ∷ bs) =
-    length-append (spread w (perByte w) b) (spreadAll w bs)
-    ∙ rw (spread-length w (perByte w) b, data-length w bs, suc-mul) (omega arith)
-
 -- so many bytes of what spells them
 data-from : (w : Wires) (bs : List ℕ) → bytewise bs ≡ true → bytesIn w (length bs) (spreadAll w bs) ≡ bs
 unfolding spreadAll bytesIn bytewise
@@ -104,5 +93,5 @@ data-from w (b ∷ bs) e =
 pub data-read : (w : Wires) (bs : List ℕ) → bytewise bs ≡ true → dataBytes w (spreadAll w bs) ≡ bs
 unfolding dataBytes
 data-read w bs e =
-    let q : length (spreadAll w bs) / perByte w ≡ length bs = rw (data-length w bs) (mul-div-cancel (length bs) (perByte-pos w)) in
+    let q : length (spreadAll w bs) / perByte w ≡ length bs = rw (sent-many w bs) (mul-div-cancel (length bs) (perByte-pos w)) in
     ap (λ (n : ℕ). bytesIn w n (spreadAll w bs)) q ∙ data-from w bs e

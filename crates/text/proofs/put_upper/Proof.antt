@@ -4,20 +4,22 @@ use Prim.Native.Nat.{_-_}
 use native.Mathlib.Omega.{arith}
 use borrow.Author.Needs.{needs}
 use mathlib.Core.List.{map}
-use lib.ListN.{length}
-use Rattle.text.specs.Page.{page, upperOf}
-use Rattle.text.specs.Laws.{Putting, put-start, upper-turn, upper-end}
+use lib.ListN.{length, drop, drop-of-length-le}
+use Rattle.pages.specs.Page.{page}
+use Rattle.pages.specs.Laws.{Left, none-put, put-one, all-put, drop-one}
+use Rattle.text.specs.Upper.{upperOf}
+use mathlib.Core.Path.{ap}
 use Rattle.text.proofs.put_upper.Statement.{statement}
 use Rattle.text.proofs.put_upper.Tie as tie
 
 abbrev Inv-loop : tie.InvT-loop
-Inv-loop text₀ at bytes to₀ i₀ text to i = Putting (map upperOf bytes) (page to₀ text₀) (page to text) i
+Inv-loop text₀ at bytes to₀ i₀ text to i = Left (map upperOf bytes) (page to₀ text₀) (map upperOf (drop i bytes)) (page to text)
 
 abbrev μ-loop : tie.MeasureT-loop
 μ-loop text₀ at bytes to₀ i₀ text to i = length bytes - i
 
 loop-holds : tie.Need-loop-holds Inv-loop μ-loop
-loop-holds c = put-start _ _
+loop-holds c = none-put _ _
 
 shared-slice-read-b : tie.Need-shared-slice-read-b Inv-loop μ-loop
 shared-slice-read-b c = omega arith
@@ -35,13 +37,13 @@ loop-less : tie.Need-loop-less Inv-loop μ-loop
 loop-less c = omega (arith, c .before .before .before .before .before .before .loop-test .taken)
 
 loop-again : tie.Need-loop-again Inv-loop μ-loop
-loop-again c = upper-turn (c .before .before .before .before .before .before .before .before .before .before .args .bytes .now) (c .before .before .before .before .before .before .before .loop .inv) (c .before .before .before .before .before .before .loop-test .taken) (c .before .before .before .upper .ensures) (c .before .before .put .ensures) (c .before .before .put .kept .0)
+loop-again c = put-one (c .before .before .before .before .before .before .before .loop .inv) (ap (map upperOf) (drop-one _ _ (c .before .before .before .before .before .before .loop-test .taken))) (rw (c .before .before .before .upper .ensures) at (c .before .before .put .ensures)) (c .before .before .put .kept .0)
 
 same-length : tie.Need-same-length Inv-loop μ-loop
 same-length c = c .before .loop .inv .long
 
 returns : tie.Need-returns Inv-loop μ-loop
-returns c = upper-end (c .before .before .before .before .args .bytes .now) (c .before .loop .inv) (c .loop-test .left)
+returns c = all-put (c .before .loop .inv) (ap (map upperOf) (drop-of-length-le _ (c .loop-test .left)))
 
 pub put-upper-spec : {M : Type 1} → statement M
 put-upper-spec =

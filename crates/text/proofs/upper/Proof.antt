@@ -2,7 +2,7 @@
 -- Assumes nothing.
 use native.Mathlib.Omega.{arith}
 use borrow.Author.Tests.{lt-ltb, le-ltb}
-use Rattle.text.specs.Page.{upperOf}
+use Rattle.text.specs.Upper.{upperOf}
 use Rattle.text.proofs.upper.Statement.{statement}
 use Rattle.text.proofs.upper.Tie as tie
 

@@ -1,22 +1,22 @@
--- `text::put_all` meets its contract. The invariant: what is left of the bytes, put from here, comes to the whole.
+-- `pages::put_all` meets its contract. The invariant: what is left of the bytes, put from here, comes to the whole.
 -- Assumes nothing.
 use Prim.Native.Nat.{_-_}
 use native.Mathlib.Omega.{arith}
 use borrow.Author.Needs.{needs}
-use lib.ListN.{length}
-use Rattle.text.specs.Page.{page}
-use Rattle.text.specs.Laws.{Putting, put-start, put-turn, put-end}
-use Rattle.text.proofs.put_all.Statement.{statement}
-use Rattle.text.proofs.put_all.Tie as tie
+use lib.ListN.{length, drop, drop-of-length-le}
+use Rattle.pages.specs.Page.{page}
+use Rattle.pages.specs.Laws.{Left, none-put, put-one, all-put, drop-one}
+use Rattle.pages.proofs.put_all.Statement.{statement}
+use Rattle.pages.proofs.put_all.Tie as tie
 
 abbrev Inv-loop : tie.InvT-loop
-Inv-loop text₀ at bytes to₀ i₀ text to i = Putting bytes (page to₀ text₀) (page to text) i
+Inv-loop buffer₀ at bytes to₀ i₀ buffer to i = Left bytes (page to₀ buffer₀) (drop i bytes) (page to buffer)
 
 abbrev μ-loop : tie.MeasureT-loop
-μ-loop text₀ at bytes to₀ i₀ text to i = length bytes - i
+μ-loop buffer₀ at bytes to₀ i₀ buffer to i = length bytes - i
 
 loop-holds : tie.Need-loop-holds Inv-loop μ-loop
-loop-holds c = put-start _ _
+loop-holds c = none-put _ _
 
 shared-slice-read-b : tie.Need-shared-slice-read-b Inv-loop μ-loop
 shared-slice-read-b c = omega arith
@@ -31,13 +31,13 @@ loop-less : tie.Need-loop-less Inv-loop μ-loop
 loop-less c = omega (arith, c .before .before .before .before .before .loop-test .taken)
 
 loop-again : tie.Need-loop-again Inv-loop μ-loop
-loop-again c = put-turn (c .before .before .before .before .before .before .loop .inv) (c .before .before .before .before .before .loop-test .taken) (c .before .before .put .ensures) (c .before .before .put .kept .0)
+loop-again c = put-one (c .before .before .before .before .before .before .loop .inv) (drop-one _ _ (c .before .before .before .before .before .loop-test .taken)) (c .before .before .put .ensures) (c .before .before .put .kept .0)
 
 same-length : tie.Need-same-length Inv-loop μ-loop
 same-length c = c .before .loop .inv .long
 
 returns : tie.Need-returns Inv-loop μ-loop
-returns c = put-end (c .before .loop .inv) (c .loop-test .left)
+returns c = all-put (c .before .loop .inv) (drop-of-length-le _ (c .loop-test .left))
 
 pub put-all-spec : {M : Type 1} → statement M
 put-all-spec =

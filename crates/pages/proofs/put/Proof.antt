@@ -1,17 +1,17 @@
--- `text::put` meets its contract: the two ways are the definition's.
+-- `pages::put` meets its contract: the two ways are the definition's.
 -- Assumes nothing.
 use borrow.Author.Tests.{lt-ltb, le-ltb}
-use Rattle.text.specs.Page.{putOf}
+use Rattle.pages.specs.Page.{putOf}
 use borrow.Author.Needs.{needs}
-use Rattle.text.proofs.put.Statement.{statement}
-use Rattle.text.proofs.put.Tie as tie
+use Rattle.pages.proofs.put.Statement.{statement}
+use Rattle.pages.proofs.put.Tie as tie
 
 pub put-spec : {M : Type 1} → statement M
 unfolding putOf
 put-spec =
     tie.close
     (tie.spec
-    -- slice-write-text
+    -- slice-write-buffer
     (λ c. search needs)
     -- add-result
     (λ c. search needs)

@@ -1,0 +1,30 @@
+-- `building::put_built` meets its contract: each phase is put where the one before it ends.
+-- Assumes nothing.
+use Rattle.orders.specs.Orders.{orderAs}
+use Rattle.building.specs.Laws.{built-put}
+use borrow.Author.Needs.{needs}
+use Rattle.building.proofs.put_built.Statement.{statement}
+use Rattle.building.proofs.put_built.Tie as tie
+
+pub put-built-spec : {M : Type 1} → statement M
+put-built-spec =
+    tie.close
+    (tie.spec
+    -- mode-wires-requires
+    (λ c κs. search needs)
+    -- later-wires-requires
+    (λ c κs. search needs)
+    -- address-of-requires
+    (λ c κs. search needs)
+    -- address-length-requires
+    (λ c κs. search needs)
+    -- put-byte-requires
+    (λ c κs. search needs)
+    -- put-number-requires
+    (λ c κs. search needs)
+    -- put-rest-requires
+    (λ c κs. search needs)
+    -- same-length
+    (λ c. search needs)
+    -- returns
+    (λ c. built-put (orderAs (c .before .before .before .before .before .before .before .before .before .before .before .before .before .before .before .before .before .before .args .o) (c .before .before .before .before .before .before .before .before .before .before .before .before .before .before .before .before .before .before .args .written .now)) (c .before .before .before .before .before .before .before .before .before .before .before .before .before .before .before .before .before .before .args .k) _ (rw (c .before .before .before .before .before .before .before .before .before .before .before .before .before .before .before .mode-wires .ensures) at (c .before .before .before .before .before .before .before .before .before .before .put-byte .ensures)) (rw (c .before .before .before .before .before .before .before .before .before .before .before .before .address-length .ensures, c .before .before .before .before .before .before .before .before .before .before .before .before .before .address-of .ensures, c .before .before .before .before .before .before .before .before .before .before .before .before .before .before .later-wires .ensures, c .before .before .before .before .before .before .before .before .before .before .before .before .before .before .before .mode-wires .ensures) at (c .before .before .before .before .before .before .put-number .ensures)) (rw (c .before .before .before .before .before .before .before .before .before .before .before .before .before .before .before .mode-wires .ensures) at (c .before .before .put-rest .ensures))))

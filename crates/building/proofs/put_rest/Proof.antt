@@ -1,0 +1,26 @@
+-- `building::put_rest` meets its contract: the data is put where the wait ends.
+-- Assumes nothing.
+use Rattle.orders.specs.Orders.{orderAs}
+use Rattle.building.specs.Laws.{rest-put}
+use borrow.Author.Needs.{needs}
+use Rattle.building.proofs.put_rest.Statement.{statement}
+use Rattle.building.proofs.put_rest.Tie as tie
+
+pub put-rest-spec : {M : Type 1} → statement M
+put-rest-spec =
+    tie.close
+    (tie.spec
+    -- wait-of-requires
+    (λ c κs. search needs)
+    -- put-silent-requires
+    (λ c κs. search needs)
+    -- body-asked-requires
+    (λ c κs. search needs)
+    -- later-wires-requires
+    (λ c κs. search needs)
+    -- put-data-requires
+    (λ c κs. search needs)
+    -- same-length
+    (λ c. search needs)
+    -- returns
+    (λ c. rest-put (orderAs (c .before .before .before .before .before .before .before .before .before .before .before .before .before .args .o) (c .before .before .before .before .before .before .before .before .before .before .before .before .before .args .written .now)) (c .before .before .before .before .before .before .before .before .before .before .before .before .before .args .k) _ _ (rw (c .before .before .before .before .before .before .before .before .before .before .wait-of .ensures) at (c .before .before .before .before .before .before .before .before .put-silent .ensures)) (rw (c .before .before .before .before .later-wires .ensures, c .before .before .before .before .before .body-asked .ensures) at (c .before .before .put-data .ensures))))

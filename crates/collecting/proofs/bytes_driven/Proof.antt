@@ -1,0 +1,18 @@
+-- `collecting::bytes_driven` meets its contract: the whole bytes of the driven clocks.
+-- Assumes nothing.
+use mathlib.Core.Path.{_∙_}
+use Rattle.collecting.specs.Laws.{collected-many}
+use borrow.Author.Needs.{needs}
+use Rattle.collecting.proofs.bytes_driven.Statement.{statement}
+use Rattle.collecting.proofs.bytes_driven.Tie as tie
+
+pub bytes-driven-spec : {M : Type 1} → statement M
+bytes-driven-spec =
+    tie.close
+    (tie.spec
+    -- driven-clocks-requires
+    (λ c κs. search needs)
+    -- clocks-to-bytes-requires
+    (λ c κs. search needs)
+    -- returns
+    (λ c. c .clocks-to-bytes .ensures ∙ collected-many _ _ (c .before .driven-clocks .ensures)))

@@ -1,0 +1,85 @@
+// The host half: a command becomes samples, and what the device drives becomes bytes. Nothing is asked of the caller.
+ghost use mathlib.Core.Path.{_≡_};
+ghost use Rattle.paper.specs.Transaction.{isDone};
+ghost use Rattle.paper.specs.Building.{buildOf};
+ghost use Rattle.paper.specs.Collecting.{collectOf};
+ghost use Rattle.orders.specs.Orders.{orderAs};
+ghost use Rattle.host.specs.Results.{builtAs, gatheredAs};
+use building::put_built;
+use collecting::put_collected;
+use orders::Order;
+use orders::kind_asked;
+use record::Answer;
+use record::mode_wires;
+use units::Bytes;
+use units::Clocks;
+
+// What is built: the answer, and how many samples there are.
+pub struct Built {
+    pub answer: Answer,
+    pub clocks: Clocks,
+}
+
+// What is gathered: the answer, and how many bytes there are.
+pub struct Gathered {
+    pub answer: Answer,
+    pub bytes: Bytes,
+}
+
+// Whether an answer refuses nothing.
+fn is_done(v: Answer) -> bool
+    ensures { λ r. ⌜ r ≡ isDone v ⌝ }
+{
+    match v {
+        Answer::Done => true,
+        Answer::Size => false,
+        Answer::Sample => false,
+        Answer::State => false,
+        Answer::Short => false,
+        Answer::Unknown => false,
+        Answer::Asleep => false,
+        Answer::Address => false,
+        Answer::Latch => false,
+        Answer::Protected => false,
+        Answer::Reserved => false,
+        Answer::Long => false,
+        Answer::Unarmed => false,
+    }
+}
+
+// The samples of a command. A read has a number of bytes in the order, a write has its bytes in `written`.
+pub fn build(o: Order, written: &[u8], samples: &mut [u8]) -> Built
+    ensures { λ r. ⌜ builtAs r (now (samples .exit)) ≡ buildOf (orderAs o (now (written .entry))) (now (samples .entry)) ⌝ }
+{
+    let k = kind_asked(o);
+    let answer = building::refusal(o, k, written, samples);
+    if !is_done(answer) {
+        return Built {
+            answer,
+            clocks: Clocks(0),
+        };
+    }
+    let n = put_built(o, k, written, samples);
+    Built {
+        answer,
+        clocks: Clocks(n),
+    }
+}
+
+// The bytes of what the device drove on so many wires.
+pub fn gather(wires: u8, driven: &[u8], bytes: &mut [u8]) -> Gathered
+    ensures { λ r. ⌜ gatheredAs r (now (bytes .exit)) ≡ collectOf wires (now (driven .entry)) (now (bytes .entry)) ⌝ }
+{
+    let verdict = collecting::refusal(wires, driven, bytes);
+    if !is_done(verdict) {
+        return Gathered {
+            answer: verdict,
+            bytes: Bytes(0),
+        };
+    }
+    let n = put_collected(mode_wires(wires), driven, bytes);
+    Gathered {
+        answer: verdict,
+        bytes: Bytes(n),
+    }
+}

@@ -1,0 +1,55 @@
+-- `sending::put_number` meets its contract. The invariant: the clocks that are left, put from here, come to the whole.
+-- Assumes nothing.
+use native.Mathlib.Omega.{arith}
+use Rattle.pages.specs.Laws.{Left, none-put, put-one, all-put}
+use Rattle.pages.specs.Page.{page}
+use Rattle.wires.specs.Bits.{spread}
+use Rattle.sending.specs.Laws.{spread-next, spread-none}
+use borrow.Author.Needs.{needs}
+use Rattle.sending.proofs.put_number.Statement.{statement}
+use Rattle.sending.proofs.put_number.Tie as tie
+
+abbrev Inv-loop : tie.InvT-loop
+Inv-loop samples₀ at w v to₀ below₀ samples to below = Left (spread w below₀ v) (page to₀ samples₀) (spread w below v) (page to samples)
+
+abbrev μ-loop : tie.MeasureT-loop
+μ-loop samples₀ at w v to₀ below₀ samples to below = below
+
+loop-holds : tie.Need-loop-holds Inv-loop μ-loop
+loop-holds c = none-put _ _
+
+sub-below : tie.Need-sub-below Inv-loop μ-loop
+sub-below c = omega arith
+
+bits-above-requires : tie.Need-bits-above-requires Inv-loop μ-loop
+bits-above-requires c κs = search needs
+
+put-requires : tie.Need-put-requires Inv-loop μ-loop
+put-requires c κs = search needs
+
+loop-less : tie.Need-loop-less Inv-loop μ-loop
+loop-less c = omega (arith, c .before .before .before .before .before .loop-test .taken)
+
+loop-again : tie.Need-loop-again Inv-loop μ-loop
+loop-again c = put-one (c .before .before .before .before .before .before .loop .inv) (spread-next _ _ _ (c .before .before .before .before .before .loop-test .taken)) (rw (c .before .before .before .before .bits-above .ensures) at (c .before .before .put .ensures)) (c .before .before .put .kept .0)
+
+same-length : tie.Need-same-length Inv-loop μ-loop
+same-length c = c .before .loop .inv .long
+
+returns : tie.Need-returns Inv-loop μ-loop
+returns c = all-put (c .before .loop .inv) (spread-none _ _ _ (c .loop-test .left))
+
+pub put-number-spec : {M : Type 1} → statement M
+put-number-spec =
+    tie.close
+    (tie.spec
+    Inv-loop
+    μ-loop
+    loop-holds
+    sub-below
+    bits-above-requires
+    put-requires
+    loop-less
+    loop-again
+    same-length
+    returns)
