@@ -22,7 +22,7 @@ use Rattle.paper.specs.Reading.{first, after, many, kindRead, dataPart, Parts, 
 use Rattle.paper.specs.Storing.{Lent, Taken, nothingTaken}
 use Rattle.paper.specs.Driving.{drivenAt, along}
 use Rattle.paper.specs.Answers.{Facts, fewer, judge}
-use Rattle.paper.specs.Transaction.{World, factsOf, isDone, undriven, drivenOf, over, clockedOf}
+use Rattle.paper.specs.Transaction.{World, factsOf, isDone, undriven, outputOf, over, clockedOf}
 use Rattle.clocking.specs.Machine.{beginOf, heldBack, holds, byteIn, ran, runOf, outsOf}
 use Rattle.judging.specs.Finish.{outcomeOf, finishOf}
 use Rattle.bridge.specs.Stage.{Seen, seen}
@@ -93,7 +93,7 @@ world d f l o out =
 pub bridge : (d : Device) (l : Lent) (xs out : List ℕ)
     → let r = ran beginOf (nothingTaken l) in
     finishOf d (runOf d r xs) (over (outsOf d r xs) out) ≡ clockedOf d l xs out
-unfolding finishOf outcomeOf clockedOf judge drivenOf
+unfolding finishOf outcomeOf clockedOf judge outputOf
 bridge d l xs out =
     let p = partsOf (settingOf d) xs in
     let f = factsOf d l p in

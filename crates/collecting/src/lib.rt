@@ -28,7 +28,7 @@ fn is_wires(n: u8) -> bool
     }
 }
 
-// Whether there is a sample that the device never drives on these wires.
+// Whether some sample is neither silence nor a level of these wires.
 fn is_strange(w: Wires, driven: &[u8]) -> bool
     ensures { λ r. ⌜ r ≡ strange w (now (driven .entry)) ⌝ }
 {

@@ -19,7 +19,6 @@ use Rattle.commands.specs.declared.plans.Address.{Address}
 use Rattle.commands.specs.declared.plans.Address.the-variants.{Absent, InMemory, InArea, InMap, LowNibbleZero, Ignored}
 use Rattle.commands.specs.declared.plans.Body.{Body}
 use Rattle.commands.specs.declared.plans.Body.the-variants.{Nothing, FixedRead, AnyRead, FixedWrite, AnyWrite}
-use Rattle.commands.specs.declared.plans.Plan.{Plan}
 use Rattle.commands.specs.Registers.{bytesOf, mappedOf}
 
 -- The waits that the papers name, in clocks: each row on one wire, on two, on four. Part P has no bus mode of two wires, and its rows have 0 there.
@@ -118,8 +117,3 @@ bodyOf p (ReadMemory s) address = AnyRead
 bodyOf p (WriteMemory s) address = AnyWrite
 bodyOf p ReadArea address = AnyRead
 bodyOf p WriteArea address = AnyWrite
-
--- THE PLAN, for part, bus mode, configuration 2, kind, and the address that was read (0 while there is none)
-abbrev pub planOf : Part → Wires → ℕ → Kind → ℕ → Plan
-planOf p w cr2 k address =
-    record { command = w; later = laterWires k w; address = addressOf k; wait = waitOf k w cr2; body = bodyOf p k address }

@@ -1,6 +1,6 @@
 // The plan of a command: what its clocks are for.
 ghost use mathlib.Core.Path.{_≡_};
-ghost use Rattle.commands.specs.Plans.{columnOf, waitRow, waitOf, laterWires, addressOf, mappedBody, bodyOf, planOf};
+ghost use Rattle.commands.specs.Plans.{columnOf, waitRow, waitOf, laterWires, addressOf, mappedBody, bodyOf};
 use crate::registers::Mapped;
 use crate::registers::register_at;
 use crate::registers::size_of;
@@ -30,15 +30,6 @@ pub enum Body {
     AnyRead,
     FixedWrite(Bytes),
     AnyWrite,
-}
-
-// The wires of the command byte and of all that follows it, the address, the wait, the data.
-pub struct Plan {
-    pub command: Wires,
-    pub later: Wires,
-    pub address: Address,
-    pub wait: Clocks,
-    pub body: Body,
 }
 
 // Waits in clocks, a row for each wait that the papers name: on one, two and four wires.
@@ -81,7 +72,7 @@ fn column(w: Wires) -> usize
 }
 
 // The clocks between address and data. Row 5, which only the augmented read of part M has, is not in the
-// table: its wait is configuration 2.
+// table: its wait stands in the low four bits of configuration 2.
 pub fn wait_of(k: Kind, w: Wires, cr2: u8) -> Clocks
     ensures { λ r. ⌜ r ≡ waitOf k w cr2 ⌝ }
 {
@@ -167,19 +158,5 @@ pub fn body_of(part: Part, k: Kind, address: u32) -> Body
         Kind::WriteMemory(_) => Body::AnyWrite,
         Kind::ReadArea => Body::AnyRead,
         Kind::WriteArea => Body::AnyWrite,
-    }
-}
-
-// The plan of a command for part, bus mode and configuration 2; `address` is the one that was read, or
-// 0 while there is none.
-pub fn plan_of(part: Part, w: Wires, cr2: u8, k: Kind, address: u32) -> Plan
-    ensures { λ r. ⌜ r ≡ planOf part w cr2 k address ⌝ }
-{
-    Plan {
-        command: w,
-        later: later_wires(k, w),
-        address: address_of(k),
-        wait: wait_of(k, w, cr2),
-        body: body_of(part, k, address),
     }
 }

@@ -32,7 +32,7 @@ use Rattle.paper.specs.Laws.{data-many}
 use Rattle.paper.specs.Storing.{Lent, Taken, nothingTaken, takeByte, takeAll}
 use Rattle.paper.specs.Driving.{drivenAt, along}
 use Rattle.paper.specs.Answers.{Facts, fewer, shortData, longRest, unarmed, reservedFor, shutData, rows, judge}
-use Rattle.paper.specs.Transaction.{World, sizedFor, factsOf, isDone, undriven, drivenOf, over, clockedOf, transactOf}
+use Rattle.paper.specs.Transaction.{World, sizedFor, factsOf, isDone, undriven, outputOf, over, clockedOf, transactOf}
 use Rattle.theorems.specs.ExactOrder.{Clear, past}
 use Rattle.theorems.specs.Driven.{reads, along-zero}
 use Rattle.order.specs.Bursts.{Burst, storeFrom, store, allShut, landed}
@@ -65,8 +65,8 @@ abbrev pub worldAt : Reply → Device → Lent → World
 worldAt r d l = record { answer = r .answer; counts = r .counts; device = d; lent = l; output = r .output }
 
 -- what is not a read drives nothing
-pub quiet : (d : Device) (l : Lent) (p : Parts) (v : Answer) → reads (bodyFor (settingOf d) (p .kind) (p .address)) ≡ false → drivenOf d l p v ≡ silence p
-unfolding drivenOf
+pub quiet : (d : Device) (l : Lent) (p : Parts) (v : Answer) → reads (bodyFor (settingOf d) (p .kind) (p .address)) ≡ false → outputOf d l p v ≡ silence p
+unfolding outputOf
 quiet d l p v e =
     ap (λ (ys : List ℕ). undriven (p .commandPart) ++ (undriven (p .addressPart) ++ (undriven (p .waitPart) ++ (ys ++ undriven (p .restPart)))))
     (by (isDone v) (bodyFor (settingOf d) (p .kind) (p .address)) e)

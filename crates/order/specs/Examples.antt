@@ -31,7 +31,7 @@ use Rattle.paper.specs.Storing.{protectedAt, putAt, takeAll}
 use Rattle.paper.specs.Driving.{byteRead, levelAt, along}
 use Rattle.paper.specs.Answers.{judge, unarmed}
 use Rattle.paper.specs.Building.{spreadAll}
-use Rattle.paper.specs.Transaction.{sizedFor, roomFor, sampled, factsOf, drivenOf, over, clockedOf, transactOf}
+use Rattle.paper.specs.Transaction.{sizedFor, roomFor, sampled, factsOf, outputOf, over, clockedOf, transactOf}
 use Rattle.order.specs.Steps.{Every}
 use Rattle.order.specs.Bursts.{placesFrom}
 use Rattle.order.specs.Episodes.{Chip, Call, Reply, after, replies, aimed, Enabling, Episode, onM, onP, touched, runs, Ready, AnyOrder}
@@ -85,19 +85,19 @@ listP = lapping ∷ folded ∷ []
 
 -- ---- the premises hold
 ready-M : Ready chipM
-unfolding shiftOf gatherFrom spread groupOf spreadAll entryOf mappedOf statusAllowed cr3Allowed cr4Allowed configurationsAllowed modeRegisterAllowed modeAllowed zeros registersM registersP volatileM volatileP identityM identityP validOf readSpan writeSpan placeIn shutMemory sectionShut protectedOf areaProtectedOf asleepFor refusedAt stopped decided commandClocks wiresFor addressClocks waitClocks bodyFor kindRead addressRead partsOf bytesIn dataBytes protectedAt putAt takeAll byteRead levelAt along judge unarmed latchMissing sizedFor roomFor sampled factsOf drivenOf over clockedOf transactOf
+unfolding shiftOf gatherFrom spread groupOf spreadAll entryOf mappedOf statusAllowed cr3Allowed cr4Allowed configurationsAllowed modeRegisterAllowed modeAllowed zeros registersM registersP volatileM volatileP identityM identityP validOf readSpan writeSpan placeIn shutMemory sectionShut protectedOf areaProtectedOf asleepFor refusedAt stopped decided commandClocks wiresFor addressClocks waitClocks bodyFor kindRead addressRead partsOf bytesIn dataBytes protectedAt putAt takeAll byteRead levelAt along judge unarmed latchMissing sizedFor roomFor sampled factsOf outputOf over clockedOf transactOf
 ready-M = record { sized = refl; valid = refl; awake = refl }
 
 ready-P : Ready chipP
-unfolding shiftOf gatherFrom spread groupOf spreadAll entryOf mappedOf statusAllowed cr3Allowed cr4Allowed configurationsAllowed modeRegisterAllowed modeAllowed zeros registersM registersP volatileM volatileP identityM identityP validOf readSpan writeSpan placeIn shutMemory sectionShut protectedOf areaProtectedOf asleepFor refusedAt stopped decided commandClocks wiresFor addressClocks waitClocks bodyFor kindRead addressRead partsOf bytesIn dataBytes protectedAt putAt takeAll byteRead levelAt along judge unarmed latchMissing sizedFor roomFor sampled factsOf drivenOf over clockedOf transactOf
+unfolding shiftOf gatherFrom spread groupOf spreadAll entryOf mappedOf statusAllowed cr3Allowed cr4Allowed configurationsAllowed modeRegisterAllowed modeAllowed zeros registersM registersP volatileM volatileP identityM identityP validOf readSpan writeSpan placeIn shutMemory sectionShut protectedOf areaProtectedOf asleepFor refusedAt stopped decided commandClocks wiresFor addressClocks waitClocks bodyFor kindRead addressRead partsOf bytesIn dataBytes protectedAt putAt takeAll byteRead levelAt along judge unarmed latchMissing sizedFor roomFor sampled factsOf outputOf over clockedOf transactOf
 ready-P = record { sized = refl; valid = refl; awake = refl }
 
 enabling : Enabling chipM enables
-unfolding shiftOf gatherFrom spread groupOf spreadAll entryOf mappedOf statusAllowed cr3Allowed cr4Allowed configurationsAllowed modeRegisterAllowed modeAllowed zeros registersM registersP volatileM volatileP identityM identityP validOf readSpan writeSpan placeIn shutMemory sectionShut protectedOf areaProtectedOf asleepFor refusedAt stopped decided commandClocks wiresFor addressClocks waitClocks bodyFor kindRead addressRead partsOf bytesIn dataBytes protectedAt putAt takeAll byteRead levelAt along judge unarmed latchMissing sizedFor roomFor sampled factsOf drivenOf over clockedOf transactOf
+unfolding shiftOf gatherFrom spread groupOf spreadAll entryOf mappedOf statusAllowed cr3Allowed cr4Allowed configurationsAllowed modeRegisterAllowed modeAllowed zeros registersM registersP volatileM volatileP identityM identityP validOf readSpan writeSpan placeIn shutMemory sectionShut protectedOf areaProtectedOf asleepFor refusedAt stopped decided commandClocks wiresFor addressClocks waitClocks bodyFor kindRead addressRead partsOf bytesIn dataBytes protectedAt putAt takeAll byteRead levelAt along judge unarmed latchMissing sizedFor roomFor sampled factsOf outputOf over clockedOf transactOf
 enabling = record { kind = refl; done = refl }
 
 episodes-M : Every (Episode chipM) listM
-unfolding aimed shiftOf gatherFrom spread groupOf spreadAll entryOf mappedOf statusAllowed cr3Allowed cr4Allowed configurationsAllowed modeRegisterAllowed modeAllowed zeros registersM registersP volatileM volatileP identityM identityP validOf readSpan writeSpan placeIn shutMemory sectionShut protectedOf areaProtectedOf asleepFor refusedAt stopped decided commandClocks wiresFor addressClocks waitClocks bodyFor kindRead addressRead partsOf bytesIn dataBytes protectedAt putAt takeAll byteRead levelAt along judge unarmed latchMissing sizedFor roomFor sampled factsOf drivenOf over clockedOf transactOf
+unfolding aimed shiftOf gatherFrom spread groupOf spreadAll entryOf mappedOf statusAllowed cr3Allowed cr4Allowed configurationsAllowed modeRegisterAllowed modeAllowed zeros registersM registersP volatileM volatileP identityM identityP validOf readSpan writeSpan placeIn shutMemory sectionShut protectedOf areaProtectedOf asleepFor refusedAt stopped decided commandClocks wiresFor addressClocks waitClocks bodyFor kindRead addressRead partsOf bytesIn dataBytes protectedAt putAt takeAll byteRead levelAt along judge unarmed latchMissing sizedFor roomFor sampled factsOf outputOf over clockedOf transactOf
 episodes-M = (
   onM refl enabling (record { room = refl; levels = refl; way = Writes.Plain; kind = refl; reach = refl; some = lit≤ tt }),
   (
@@ -110,7 +110,7 @@ episodes-M = (
 )
 
 episodes-P : Every (Episode chipP) listP
-unfolding aimed shiftOf gatherFrom spread groupOf spreadAll entryOf mappedOf statusAllowed cr3Allowed cr4Allowed configurationsAllowed modeRegisterAllowed modeAllowed zeros registersM registersP volatileM volatileP identityM identityP validOf readSpan writeSpan placeIn shutMemory sectionShut protectedOf areaProtectedOf asleepFor refusedAt stopped decided commandClocks wiresFor addressClocks waitClocks bodyFor kindRead addressRead partsOf bytesIn dataBytes protectedAt putAt takeAll byteRead levelAt along judge unarmed latchMissing sizedFor roomFor sampled factsOf drivenOf over clockedOf transactOf
+unfolding aimed shiftOf gatherFrom spread groupOf spreadAll entryOf mappedOf statusAllowed cr3Allowed cr4Allowed configurationsAllowed modeRegisterAllowed modeAllowed zeros registersM registersP volatileM volatileP identityM identityP validOf readSpan writeSpan placeIn shutMemory sectionShut protectedOf areaProtectedOf asleepFor refusedAt stopped decided commandClocks wiresFor addressClocks waitClocks bodyFor kindRead addressRead partsOf bytesIn dataBytes protectedAt putAt takeAll byteRead levelAt along judge unarmed latchMissing sizedFor roomFor sampled factsOf outputOf over clockedOf transactOf
 episodes-P = (
   onP refl (record { room = refl; levels = refl; way = Writes.Plain; kind = refl; reach = refl; some = lit≤ tt }),
   (
@@ -120,11 +120,11 @@ episodes-P = (
 )
 
 apart-M : allDisjoint (settingOf (chipM .device)) listM ≡ true
-unfolding aimed placesFrom shiftOf gatherFrom spread groupOf spreadAll entryOf mappedOf statusAllowed cr3Allowed cr4Allowed configurationsAllowed modeRegisterAllowed modeAllowed zeros registersM registersP volatileM volatileP identityM identityP validOf readSpan writeSpan placeIn shutMemory sectionShut protectedOf areaProtectedOf asleepFor refusedAt stopped decided commandClocks wiresFor addressClocks waitClocks bodyFor kindRead addressRead partsOf bytesIn dataBytes protectedAt putAt takeAll byteRead levelAt along judge unarmed latchMissing sizedFor roomFor sampled factsOf drivenOf over clockedOf transactOf
+unfolding aimed placesFrom shiftOf gatherFrom spread groupOf spreadAll entryOf mappedOf statusAllowed cr3Allowed cr4Allowed configurationsAllowed modeRegisterAllowed modeAllowed zeros registersM registersP volatileM volatileP identityM identityP validOf readSpan writeSpan placeIn shutMemory sectionShut protectedOf areaProtectedOf asleepFor refusedAt stopped decided commandClocks wiresFor addressClocks waitClocks bodyFor kindRead addressRead partsOf bytesIn dataBytes protectedAt putAt takeAll byteRead levelAt along judge unarmed latchMissing sizedFor roomFor sampled factsOf outputOf over clockedOf transactOf
 apart-M = refl
 
 apart-P : allDisjoint (settingOf (chipP .device)) listP ≡ true
-unfolding aimed placesFrom shiftOf gatherFrom spread groupOf spreadAll entryOf mappedOf statusAllowed cr3Allowed cr4Allowed configurationsAllowed modeRegisterAllowed modeAllowed zeros registersM registersP volatileM volatileP identityM identityP validOf readSpan writeSpan placeIn shutMemory sectionShut protectedOf areaProtectedOf asleepFor refusedAt stopped decided commandClocks wiresFor addressClocks waitClocks bodyFor kindRead addressRead partsOf bytesIn dataBytes protectedAt putAt takeAll byteRead levelAt along judge unarmed latchMissing sizedFor roomFor sampled factsOf drivenOf over clockedOf transactOf
+unfolding aimed placesFrom shiftOf gatherFrom spread groupOf spreadAll entryOf mappedOf statusAllowed cr3Allowed cr4Allowed configurationsAllowed modeRegisterAllowed modeAllowed zeros registersM registersP volatileM volatileP identityM identityP validOf readSpan writeSpan placeIn shutMemory sectionShut protectedOf areaProtectedOf asleepFor refusedAt stopped decided commandClocks wiresFor addressClocks waitClocks bodyFor kindRead addressRead partsOf bytesIn dataBytes protectedAt putAt takeAll byteRead levelAt along judge unarmed latchMissing sizedFor roomFor sampled factsOf outputOf over clockedOf transactOf
 apart-P = refl
 
 -- SO DEMAND 3 SAYS SOMETHING OF THEM: for part M the list turned round, for part P the two exchanged
@@ -163,5 +163,5 @@ examples =
     ∷ []
 
 pub examples-hold : T (all examples)
-unfolding examples aimed placesFrom after replies shiftOf gatherFrom spread groupOf spreadAll entryOf mappedOf statusAllowed cr3Allowed cr4Allowed configurationsAllowed modeRegisterAllowed modeAllowed zeros registersM registersP volatileM volatileP identityM identityP validOf readSpan writeSpan placeIn shutMemory sectionShut protectedOf areaProtectedOf asleepFor refusedAt stopped decided commandClocks wiresFor addressClocks waitClocks bodyFor kindRead addressRead partsOf bytesIn dataBytes protectedAt putAt takeAll byteRead levelAt along judge unarmed latchMissing sizedFor roomFor sampled factsOf drivenOf over clockedOf transactOf
+unfolding examples aimed placesFrom after replies shiftOf gatherFrom spread groupOf spreadAll entryOf mappedOf statusAllowed cr3Allowed cr4Allowed configurationsAllowed modeRegisterAllowed modeAllowed zeros registersM registersP volatileM volatileP identityM identityP validOf readSpan writeSpan placeIn shutMemory sectionShut protectedOf areaProtectedOf asleepFor refusedAt stopped decided commandClocks wiresFor addressClocks waitClocks bodyFor kindRead addressRead partsOf bytesIn dataBytes protectedAt putAt takeAll byteRead levelAt along judge unarmed latchMissing sizedFor roomFor sampled factsOf outputOf over clockedOf transactOf
 examples-hold = tt

@@ -41,7 +41,7 @@ fewer c d = ltb (c .0) (d .0)
 abbrev pub fewerBytes : Bytes → Bytes → Bool
 fewerBytes b c = ltb (b .0) (c .0)
 
--- 4: a write without a whole byte, or a fixed one that is not full; a read may end anywhere
+-- 4, for want of data: a burst has brought no byte, or a register write not all of its own. Reads never want data.
 abbrev pub shortData : Body → Wires → Clocks → Bool
 shortData Nothing w t = false
 shortData (FixedRead b) w t = false
@@ -49,7 +49,7 @@ shortData AnyRead w t = false
 shortData (FixedWrite b) w t = fewerBytes (wholeOf w t) b
 shortData AnyWrite w t = fewerBytes (wholeOf w t) (bytes 1)
 
--- 11: a clock too many for a command without data or a fixed write
+-- 11: clocks go on where nothing more is expected
 abbrev pub longRest : Body → Clocks → Bool
 longRest Nothing t = fewer (clocks 0) t
 longRest (FixedRead b) t = false

@@ -23,7 +23,7 @@ use Rattle.record.specs.declared.Answer.the-variants.{Size, Short, Unknown, Add
 use Rattle.record.specs.Devices.{modeWires}
 use Rattle.values.specs.States.{modeAllowed}
 use Rattle.paper.specs.InForce.{addressLength, unknown}
-use Rattle.paper.specs.Reading.{many}
+use Rattle.paper.specs.Reading.{longest, many}
 use Rattle.paper.specs.Answers.{firstOf, fewer, fewerBytes}
 use Rattle.paper.specs.Transaction.{isDone, over}
 
@@ -97,7 +97,7 @@ waitsByRegister Kinds.WriteArea = false
 unfoldable pub overlong : Kind → ℕ → Bool
 overlong k cr2 = waitsByRegister k && ltb 0x0F cr2
 
--- 4: no byte where there is data, or a fixed write that is not full; a fixed read may ask for fewer
+-- 4: fewer bytes than the command can do with. A register write wants all of its own, everything else one.
 abbrev pub tooFew : Body → Bytes → Bytes → Bool
 tooFew Nothing wanted written = false
 tooFew (FixedRead b) wanted written = fewerBytes wanted (bytes 1)
@@ -147,7 +147,7 @@ buildRows o k out =
     ∷ (overlong k (o .cr2), Reserved)
     ∷ (tooFew (bodyAsked o k) (o .wanted) (manyBytes (o .written)), Short)
     ∷ (tooMany (bodyAsked o k) (o .wanted) (manyBytes (o .written)), Long)
-    ∷ (fewer (clocks 65535) (many (builtOf o k)) || fewer (many out) (many (builtOf o k)), Size)
+    ∷ (fewer longest (many (builtOf o k)) || fewer (many out) (many (builtOf o k)), Size)
     ∷ []
 
 -- What a call of the host half tells, and what it leaves in the buffer. The number is of clocks where samples are built, and of bytes where bytes are

@@ -23,7 +23,7 @@ unfoldable pub seenIn : Wires → List ℕ → List ℕ
 seenIn w [] = []
 seenIn w (x ∷ xs) = cond (eqb x 0) (seenIn w xs) (seenOf w x ∷ seenIn w xs)
 
--- a byte that the device never drives on so many wires
+-- some sample is neither silence nor a level of these wires
 unfoldable pub strange : Wires → List ℕ → Bool
 strange w [] = false
 strange w (x ∷ xs) = (not (eqb x 0) && not (drivenOf w x)) || strange w xs

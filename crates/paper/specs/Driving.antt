@@ -1,4 +1,4 @@
--- What a read drives. Document 01, "Samples", second paragraph: every data clock of a read, also of an unfinished byte, and no other clock.
+-- What a read drives, clock by clock. Document 01, "Samples", second paragraph. A byte that the host breaks off is driven as far as its clocks go.
 use Prim.Native.Nat.{ℕ, _+_}
 use mathlib.Core.List.{List, [], _∷_}
 use lib.ListN.{getD}

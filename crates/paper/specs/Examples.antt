@@ -1,7 +1,7 @@
 -- Document 01's bench examples (a) to (l), one table under one computed proof over the definitions. (a) has the host build a command; every other row sends samples to a
 -- fresh chip, or one with the registers that the example names, and looks at what comes back.
-use Prim.Native.Nat.{ℕ, _*_}
-use mathlib.Core.Bool.{Bool, _&&_}
+use Prim.Native.Nat.{ℕ, _+_, _*_}
+use mathlib.Core.Bool.{Bool, true, not, _&&_}
 use mathlib.Core.List.{List, [], _∷_, _++_, map}
 use lib.Dec.{T, eqb}
 use lib.ListN.{length, getD, drop, take, replicate, set}
@@ -16,9 +16,10 @@ use Rattle.opcodes.specs.Kinds.{entryOf}
 use Rattle.commands.specs.Registers.{mappedOf}
 use Rattle.record.specs.declared.Device.{Device}
 use Rattle.record.specs.Answers.{answerNumber}
+use Rattle.record.specs.Devices.{settingOf}
 use Rattle.record.specs.Fresh.{freshM, freshP}
 use Rattle.record.specs.Latches.{latchMissing}
-use Rattle.record.specs.Changes.{modeTo, modeRegisterTo, statusTo, configurationsTo}
+use Rattle.record.specs.Changes.{sleepTo, modeTo, modeRegisterTo, statusTo, configurationsTo}
 use Rattle.values.specs.Values.{statusAllowed, cr3Allowed, cr4Allowed, configurationsAllowed, modeRegisterAllowed}
 use Rattle.values.specs.States.{modeAllowed, zeros, registersM, registersP, volatileM, volatileP, identityM, identityP, validOf}
 use Rattle.places.specs.Places.{readSpan, writeSpan, placeIn}
@@ -30,7 +31,7 @@ use Rattle.paper.specs.Driving.{byteRead, levelAt, along}
 use Rattle.paper.specs.Answers.{judge, unarmed}
 use Rattle.paper.specs.Collecting.{seenIn, strange, collected, collectOf}
 use Rattle.paper.specs.Building.{Order, Told, kindAsked, beyond, overlong, spreadAll, builtOf, buildOf}
-use Rattle.paper.specs.Transaction.{World, sizedFor, roomFor, sampled, factsOf, drivenOf, over, clockedOf, transactOf}
+use Rattle.paper.specs.Transaction.{World, powerOf, sizedFor, roomFor, sampled, factsOf, outputOf, over, clockedOf, transactOf}
 
 -- chips of 1,024 bytes
 abbrev m : Device
@@ -66,6 +67,10 @@ answers r a five =
 abbrev memoryAt : World → List ℕ → List ℕ
 memoryAt r places = map (λ i. getD (r .lent .memory) i 0) places
 
+-- the last sixteen places of such a memory
+abbrev topBytes : List ℕ
+topBytes = map (λ i. 0x3F0 + i) (0 ∷ 1 ∷ 2 ∷ 3 ∷ 4 ∷ 5 ∷ 6 ∷ 7 ∷ 8 ∷ 9 ∷ 10 ∷ 11 ∷ 12 ∷ 13 ∷ 14 ∷ 15 ∷ [])
+
 -- what the host builds for a command without address and data on part M
 abbrev plain : ℕ → ℕ → Told Clocks
 plain opcode mode =
@@ -95,7 +100,8 @@ examples =
     -- (g) M, four at 3FEh
     ∷ (let r = sent m (onM (blank 1024)) (byte One 0x02 ++ (address One 0x3FE ++ (byte One 1 ++ (byte One 2 ++ (byte One 3 ++ byte One 4))))) in
     same (memoryAt r (0x3FE ∷ 0x3FF ∷ 0x000 ∷ 0x001 ∷ [])) (1 ∷ 2 ∷ 3 ∷ 4 ∷ []))
-    -- (h) M, status 04h, four at 3EEh: two are stored
+    -- (h) M, status 04h: 3F0h to 3FFh are protected and no byte below them; four at 3EEh: two are stored
+    ∷ (all (map (protectedOf (settingOf (statusTo 0x04 m))) topBytes) && not (protectedOf (settingOf (statusTo 0x04 m)) 0x3EF))
     ∷ (let r = sent (statusTo 0x04 m) (onM (blank 1024)) (byte One 0x02 ++ (address One 0x3EE ++ (byte One 1 ++ (byte One 2 ++ (byte One 3 ++ byte One 4))))) in
     answers r 0 (8 ∷ 24 ∷ 0 ∷ 32 ∷ 0 ∷ []) && same (memoryAt r (0x3EE ∷ 0x3EF ∷ 0x3F0 ∷ 0x3F1 ∷ [])) (1 ∷ 2 ∷ 0 ∷ 0 ∷ []))
     -- (i) the same, two at 3F0h
@@ -110,8 +116,27 @@ examples =
     ∷ []
 
 pub examples-hold : T (all examples)
-unfolding examples kindAsked beyond overlong spreadAll builtOf buildOf shiftOf gatherFrom spread groupOf entryOf mappedOf statusAllowed cr3Allowed cr4Allowed configurationsAllowed modeRegisterAllowed modeAllowed zeros registersM registersP volatileM volatileP identityM identityP validOf readSpan writeSpan placeIn shutMemory sectionShut protectedOf areaProtectedOf asleepFor refusedAt stopped decided commandClocks wiresFor addressClocks waitClocks bodyFor kindRead addressRead partsOf bytesIn dataBytes protectedAt putAt takeAll byteRead levelAt along judge unarmed latchMissing sizedFor roomFor sampled factsOf drivenOf over clockedOf transactOf
+unfolding examples kindAsked beyond overlong spreadAll builtOf buildOf shiftOf gatherFrom spread groupOf entryOf mappedOf statusAllowed cr3Allowed cr4Allowed configurationsAllowed modeRegisterAllowed modeAllowed zeros registersM registersP volatileM volatileP identityM identityP validOf readSpan writeSpan placeIn shutMemory sectionShut protectedOf areaProtectedOf asleepFor refusedAt stopped decided commandClocks wiresFor addressClocks waitClocks bodyFor kindRead addressRead partsOf bytesIn dataBytes protectedAt putAt takeAll byteRead levelAt along judge unarmed latchMissing sizedFor roomFor sampled factsOf outputOf over clockedOf transactOf
 examples-hold = tt
+
+-- transactions on one chip, one after the other: their answers
+unfoldable pub answersIn : Device → List (List ℕ) → List ℕ
+answersIn d [] = []
+answersIn d (xs ∷ rest) = let r = sent d (onM (blank 1024)) xs in answerNumber (r .answer) ∷ answersIn (r .device) rest
+
+-- one byte to address 0, and a chip in a write mode
+abbrev stores : List ℕ
+stores = byte One 0x02 ++ (address One 0 ++ byte One 0x5A)
+
+abbrev inWriteMode : ℕ → Device
+inWriteMode mode = configurationsTo (0x00 ∷ 0x08 ∷ 0x00 ∷ (0x04 + mode) ∷ []) m
+
+-- chips whose identities show which byte is which
+abbrev namedM : Device
+namedM = freshM 10 (1 ∷ 2 ∷ 3 ∷ 4 ∷ []) (11 ∷ 12 ∷ 13 ∷ 14 ∷ 15 ∷ 16 ∷ 17 ∷ 18 ∷ [])
+
+abbrev namedP : Device
+namedP = freshP 10 (1 ∷ 2 ∷ 3 ∷ 4 ∷ 5 ∷ 6 ∷ 7 ∷ 8 ∷ [])
 
 -- a read that the host builds, sent to a device, and gathered from what it drives on the wires of its data
 abbrev asks : Device → Lent → ℕ → ℕ → ℕ → ℕ → ℕ → Told Bytes
@@ -121,7 +146,8 @@ asks d l opcode mode address wanted wires =
     collectOf wires (sent d l (take (t .number .0) (t .buffer)) .output) (replicate 10 0xA5)
 
 -- Where (g) and (h) leave a way out: a burst that comes out of the protected bytes goes on, and part M's groups are for reads and not for writes. Then the way
--- from the host to the device and back: four bytes of part P by EB, and eight asked of a register that has one, by 65.
+-- from the host to the device and back: four bytes of part P by EB, and eight asked of a register that has one, by 65. Last,
+-- the identities, and what one transaction leaves to the next.
 unfoldable pub further : List Bool
 further =
     (let r = sent (statusTo 0x04 m) (onM (blank 1024)) (byte One 0x02 ++ (address One 0x3FE ++ (byte One 1 ++ (byte One 2 ++ (byte One 3 ++ byte One 4))))) in
@@ -132,8 +158,24 @@ further =
     eqb (t .number .0) 4 && same (t .buffer) (0xA5 ∷ 0x00 ∷ 0x5A ∷ 0x00 ∷ replicate 6 0xA5))
     ∷ (let t = asks (statusTo 0x04 m) (onM (blank 1024)) 0x65 1 0x000000 8 1 in
     eqb (t .number .0) 1 && same (t .buffer) (0x04 ∷ replicate 9 0xA5))
+    -- identities, byte 0 first: 9F and 4C of part M and the map's 30h and 40h, and part P's 9F
+    ∷ same (asks namedM (onM (blank 1024)) 0x9F 1 0 4 1 .buffer) (1 ∷ 2 ∷ 3 ∷ 4 ∷ replicate 6 0xA5)
+    ∷ same (asks namedM (onM (blank 1024)) 0x4C 1 0 8 1 .buffer) (11 ∷ 12 ∷ 13 ∷ 14 ∷ 15 ∷ 16 ∷ 17 ∷ 18 ∷ replicate 2 0xA5)
+    ∷ same (asks namedM (onM (blank 1024)) 0x65 1 0x30 8 1 .buffer) (1 ∷ 2 ∷ 3 ∷ 4 ∷ replicate 6 0xA5)
+    ∷ same (asks namedM (onM (blank 1024)) 0x65 1 0x40 3 1 .buffer) (11 ∷ 12 ∷ 13 ∷ replicate 7 0xA5)
+    ∷ same (asks namedP (onP (blank 1024)) 0x9F 1 0 8 1 .buffer) (1 ∷ 2 ∷ 3 ∷ 4 ∷ 5 ∷ 6 ∷ 7 ∷ 8 ∷ replicate 2 0xA5)
+    -- arming: a reset right after 66, not once more, and not after something else
+    ∷ same (answersIn m (byte One 0x66 ∷ byte One 0x99 ∷ byte One 0x99 ∷ [])) (0 ∷ 0 ∷ 12 ∷ [])
+    ∷ same (answersIn m (byte One 0x66 ∷ byte One 0x00 ∷ byte One 0x99 ∷ [])) (0 ∷ 0 ∷ 12 ∷ [])
+    -- sleep: nothing but AB is known, and a power cycle wakes too
+    ∷ same (answersIn m (byte One 0xB9 ∷ byte One 0x06 ∷ byte One 0xAB ∷ byte One 0x06 ∷ [])) (0 ∷ 6 ∷ 0 ∷ 0 ∷ [])
+    ∷ not (powerOf (sleepTo true m) (onM (blank 1024)) .device .volatile .asleep)
+    -- the latch: write mode 0 wants it for each burst, 1 for none, 2 keeps it up until 04
+    ∷ same (answersIn (inWriteMode 0) (stores ∷ byte One 0x06 ∷ stores ∷ stores ∷ [])) (8 ∷ 0 ∷ 0 ∷ 8 ∷ [])
+    ∷ same (answersIn (inWriteMode 1) (stores ∷ stores ∷ [])) (0 ∷ 0 ∷ [])
+    ∷ same (answersIn (inWriteMode 2) (byte One 0x06 ∷ stores ∷ stores ∷ byte One 0x04 ∷ stores ∷ [])) (0 ∷ 0 ∷ 0 ∷ 0 ∷ 8 ∷ [])
     ∷ []
 
 pub further-hold : T (all further)
-unfolding further kindAsked beyond overlong spreadAll builtOf buildOf seenIn strange collected collectOf shiftOf gatherFrom spread groupOf entryOf mappedOf statusAllowed cr3Allowed cr4Allowed configurationsAllowed modeRegisterAllowed modeAllowed zeros registersM registersP volatileM volatileP identityM identityP validOf readSpan writeSpan placeIn shutMemory sectionShut protectedOf areaProtectedOf asleepFor refusedAt stopped decided commandClocks wiresFor addressClocks waitClocks bodyFor kindRead addressRead partsOf bytesIn dataBytes protectedAt putAt takeAll byteRead levelAt along judge unarmed latchMissing sizedFor roomFor sampled factsOf drivenOf over clockedOf transactOf
+unfolding further answersIn powerOf kindAsked beyond overlong spreadAll builtOf buildOf seenIn strange collected collectOf shiftOf gatherFrom spread groupOf entryOf mappedOf statusAllowed cr3Allowed cr4Allowed configurationsAllowed modeRegisterAllowed modeAllowed zeros registersM registersP volatileM volatileP identityM identityP validOf readSpan writeSpan placeIn shutMemory sectionShut protectedOf areaProtectedOf asleepFor refusedAt stopped decided commandClocks wiresFor addressClocks waitClocks bodyFor kindRead addressRead partsOf bytesIn dataBytes protectedAt putAt takeAll byteRead levelAt along judge unarmed latchMissing sizedFor roomFor sampled factsOf outputOf over clockedOf transactOf
 further-hold = tt

@@ -3,6 +3,7 @@
 use Prim.Native.Nat.{ℕ}
 use mathlib.Core.Bool.{Bool, true, false, cond, not, _&&_, _||_}
 use Rattle.units.specs.declared.Clocks.{Clocks}
+use Rattle.units.specs.declared.Bytes.{Bytes}
 use Rattle.units.specs.declared.Wires.{Wires}
 use Rattle.units.specs.Units.{clocks, bytes, clocksOf}
 use Rattle.opcodes.specs.declared.Control.{Control}
@@ -75,14 +76,17 @@ stopped s k = asleepFor s k || unknown k
 unfoldable pub decided : Setting → Kind → ℕ → Bool
 decided s k address = stopped s k || refusedAt s k address
 
--- an address is 24 bits long, which is three bytes
+-- an address has as many bits as three bytes
+abbrev pub addressBytes : Bytes
+addressBytes = bytes 3
+
 abbrev pub addressLength : Address → Wires → Clocks
 addressLength Absent w = clocks 0
-addressLength InMemory w = clocksOf w (bytes 3)
-addressLength InArea w = clocksOf w (bytes 3)
-addressLength InMap w = clocksOf w (bytes 3)
-addressLength LowNibbleZero w = clocksOf w (bytes 3)
-addressLength Ignored w = clocksOf w (bytes 3)
+addressLength InMemory w = clocksOf w addressBytes
+addressLength InArea w = clocksOf w addressBytes
+addressLength InMap w = clocksOf w addressBytes
+addressLength LowNibbleZero w = clocksOf w addressBytes
+addressLength Ignored w = clocksOf w addressBytes
 
 -- the clocks of each phase
 unfoldable pub commandClocks : Setting → Clocks

@@ -1,4 +1,4 @@
--- What the device reads off the samples. Document 01, "Answer numbers", the paragraph on counts: clocks are given to the phases in order.
+-- What the device reads off the samples: each phase takes its clocks off the front of what the phases before it have left. Document 01, "Answer numbers", the paragraph on counts.
 use Prim.Native.Nat.{ℕ, zero, suc}
 use mathlib.Core.Bool.{Bool, cond}
 use mathlib.Core.List.{List, [], _∷_}
@@ -30,6 +30,10 @@ after c xs = drop (c .0) xs
 -- the clocks that the samples are
 abbrev pub many : List ℕ → Clocks
 many xs = clocks (length xs)
+
+-- no transaction is longer
+abbrev pub longest : Clocks
+longest = clocks 65535
 
 -- the kind that the command spells; there is none while bits are missing
 unfoldable pub kindRead : Setting → List ℕ → Kind

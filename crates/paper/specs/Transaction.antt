@@ -17,7 +17,7 @@ use Rattle.record.specs.Changes.{settledOf, poweredOf}
 use Rattle.values.specs.States.{validOf}
 use Rattle.places.specs.Addresses.{memorySize}
 use Rattle.paper.specs.InForce.{wiresFor, bodyFor}
-use Rattle.paper.specs.Reading.{Parts, partsOf, many, dataBytes}
+use Rattle.paper.specs.Reading.{Parts, longest, partsOf, many, dataBytes}
 use Rattle.paper.specs.Storing.{Lent, nothingTaken, takeByte, takeAll}
 use Rattle.paper.specs.Driving.{drivenAt, along}
 use Rattle.paper.specs.Answers.{Facts, judge}
@@ -42,7 +42,7 @@ sizedFor d l =
 
 -- and of a transaction its clocks and its output
 unfoldable pub roomFor : List ℕ → List ℕ → Bool
-roomFor xs out = leb (length xs) 65535 && leb (length xs) (length out)
+roomFor xs out = leb (length xs) (longest .0) && leb (length xs) (length out)
 
 -- 2: every sample is 0 to 15
 unfoldable pub sampled : List ℕ → Bool
@@ -81,8 +81,8 @@ abbrev pub undriven : List ℕ → List ℕ
 undriven xs = replicate (length xs) 0
 
 -- what the clocks drive: the data clocks of a read that is done, and nothing else
-unfoldable pub drivenOf : Device → Lent → Parts → Answer → List ℕ
-drivenOf d l p v =
+unfoldable pub outputOf : Device → Lent → Parts → Answer → List ℕ
+outputOf d l p v =
     undriven (p .commandPart)
     ++ (undriven (p .addressPart)
     ++ (undriven (p .waitPart)
@@ -104,7 +104,7 @@ clockedOf d l xs out =
       counts = f .counts;
       device = settledOf (f .kind) (f .taken .value) v d;
       lent = cond (isDone v) (f .taken .lent) l;
-      output = over (drivenOf d l p v) out;
+      output = over (outputOf d l p v) out;
     }
 
 -- a refusal leaves everything as it was
@@ -118,7 +118,7 @@ transactOf d l xs out =
     (cond (not (sampled xs)) (refusal Sample d l out)
     (cond (not (validOf d)) (refusal State d l out) (clockedOf d l xs out)))
 
--- POWER CYCLE: part M keeps memory and area, part P's memory comes back all 00h
+-- POWER CYCLE: what part M stores outlives it, what part P stores does not
 abbrev pub memoryAfter : Part → List ℕ → List ℕ
 memoryAfter M m = m
 memoryAfter P m = replicate (length m) 0

@@ -5,7 +5,7 @@ use lib.ListN.{getD}
 use Rattle.units.specs.declared.Bytes.{Bytes}
 use Rattle.units.specs.Units.{bytes}
 
--- 16, 32, 64, 128, 256 bytes for codes 0 to 4 of CR3[2:0]: 16 doubled as often as the code says
+-- part M's groups by the code in CR3[2:0]: 16 bytes, doubled as often as the code says
 abbrev pub wrapLength : ℕ → Bytes
 wrapLength cr3 = bytes (16 * 2 ^ (cr3 % 8))
 

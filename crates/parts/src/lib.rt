@@ -1,7 +1,7 @@
 // What tells one part from another: the parts and their limits, and the lengths and shares that their
 // registers choose.
 ghost use mathlib.Core.Path.{_≡_};
-ghost use Rattle.parts.specs.Parts.{partOf, knownPart, leastOf, mostOf, areaOf, sectionOf, wrapCodes};
+ghost use Rattle.parts.specs.Parts.{partOf, knownPart, leastOf, mostOf, areaOf, wrapCodes};
 ghost use Rattle.parts.specs.Lengths.{wrapLength, groupLength, shareOf};
 use units::Bytes;
 
@@ -38,8 +38,6 @@ impl Psram {
     pub const MOST: u8 = 21;
 
     pub const AREA: usize = 0;
-
-    pub const SECTION: usize = 0;
 
     pub const WRAP_CODES: u8 = 0;
 
@@ -102,22 +100,13 @@ impl Part {
         }
     }
 
-    // The bytes of the augmented area, and of each of its sections.
+    // The bytes of the augmented area.
     pub fn area(self) -> Bytes
         ensures { λ r. ⌜ r ≡ areaOf self ⌝ }
     {
         match self {
             Part::M => Bytes(Mram::AREA),
             Part::P => Bytes(Psram::AREA),
-        }
-    }
-
-    pub fn section(self) -> Bytes
-        ensures { λ r. ⌜ r ≡ sectionOf self ⌝ }
-    {
-        match self {
-            Part::M => Bytes(Mram::SECTION),
-            Part::P => Bytes(Psram::SECTION),
         }
     }
 }

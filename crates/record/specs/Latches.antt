@@ -1,5 +1,4 @@
--- The write latch. Document 01, "Commands of part M", the paragraph "Latch". The write mode that counts is the one before the write. Part P has no
--- latch.
+-- The write latch. Document 01, "Commands of part M", the paragraph "Latch". A write goes by the mode that it finds. Part P has no latch.
 use Prim.Native.Nat.{ℕ, _%_}
 use mathlib.Core.Bool.{Bool, true, false, cond, not, _&&_}
 use lib.Dec.{eqb}

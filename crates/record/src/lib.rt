@@ -67,8 +67,8 @@ pub struct Registers {
     pub mr0: u8,
 }
 
-// What a reset or a power cycle puts back: the bus mode (1, 2 or 4), the write latch, the arming of a
-// reset, sleep, and part P's toggle.
+// What does not outlive a power cycle: the bus mode (1, 2 or 4), the write latch, the arming of a reset, sleep,
+// and part P's toggle. A reset puts all of it back but sleep.
 pub struct Volatile {
     pub mode: u8,
     pub latch: bool,

@@ -226,8 +226,8 @@ module _ (o : Order) (room : List ℕ) (done : buildOf o room .answer ≡ Done) 
         drove =
             driven v f small (length command + length address + length wait) number (length (restPart body v carries))
 
-        driven-so : tx.drivenOf d l (partsOf s built) Done ≡ drove
-        unfolding tx.drivenOf
+        driven-so : tx.outputOf d l (partsOf s built) Done ≡ drove
+        unfolding tx.outputOf
         driven-so =
             rw (read-so, body-same o s suits known, level-along body e (dataPart body v carries), carried-data .wanted e)
             (three (length command) (length address) (length wait) (along (leveled v (group v f)) 0 (blank (number * perByte v)) ++ blank (length (restPart body v carries))))
@@ -235,7 +235,7 @@ module _ (o : Order) (room : List ℕ) (done : buildOf o room .answer ≡ Done) 
         output-so : first (many built) (transactOf d l built out .output) ≡ drove
         unfolding clockedOf over
         output-so =
-            let ys = tx.drivenOf d l (partsOf s built) Done in
+            let ys = tx.outputOf d l (partsOf s built) Done in
             rw (clocked, judged) (take-at ys (drop (length ys) out) (length built) (driven-length d l built Done)) ∙ driven-so
 
         pub heard-so : (buffer : List ℕ) → number ≤ length buffer

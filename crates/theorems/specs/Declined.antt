@@ -19,7 +19,7 @@ use Rattle.record.specs.Changes.{latchTo, armTo, settledOf}
 use Rattle.paper.specs.Reading.{many, Parts, partsOf}
 use Rattle.paper.specs.Storing.{Lent}
 use Rattle.paper.specs.Answers.{judge}
-use Rattle.paper.specs.Transaction.{World, factsOf, isDone, undriven, drivenOf, over, clockedOf, transactOf}
+use Rattle.paper.specs.Transaction.{World, factsOf, isDone, undriven, outputOf, over, clockedOf, transactOf}
 use Rattle.theorems.specs.Refused.{refuses, not-refused}
 use Rattle.theorems.specs.Counted.{together, parts-together, counts-add-up}
 
@@ -72,8 +72,8 @@ zeros-together p =
     )
     (simp replicate-append-replicate)
 
-mute : (d : Device) (l : Lent) (xs : List ℕ) (v : Answer) → isDone v ≡ false → drivenOf d l (partsOf (settingOf d) xs) v ≡ replicate (length xs) 0
-unfolding drivenOf
+mute : (d : Device) (l : Lent) (xs : List ℕ) (v : Answer) → isDone v ≡ false → outputOf d l (partsOf (settingOf d) xs) v ≡ replicate (length xs) 0
+unfolding outputOf
 mute d l xs v e = rw e (zeros-together (partsOf (settingOf d) xs) ∙ ap (λ (ys : List ℕ). undriven ys) (parts-together (settingOf d) xs))
 
 -- ---- by the answer

@@ -177,8 +177,8 @@ clock-says d l p done b n m i false e =
     rw (off done (reads b), List·getD-append (blank n) (middle d l p done b ++ blank m) 0 i z) (zeros n i)
 
 -- as many output bytes as samples
-pub driven-length : (d : Device) (l : Lent) (xs : List ℕ) (v : Answer) → length (tx.drivenOf d l (partsOf (settingOf d) xs) v) ≡ length xs
-unfolding tx.drivenOf
+pub driven-length : (d : Device) (l : Lent) (xs : List ℕ) (v : Answer) → length (tx.outputOf d l (partsOf (settingOf d) xs) v) ≡ length xs
+unfolding tx.outputOf
 driven-length d l xs v =
     let p = partsOf (settingOf d) xs in
     let b = bodyFor (settingOf d) (p .kind) (p .address) in
@@ -195,13 +195,13 @@ driven-length d l xs v =
 -- DRIVEN
 pub driven : (d : Device) (l : Lent) (xs out : List ℕ) → refuses (transactOf d l xs out .answer) ≡ false → (i : ℕ) → i < length xs
     → Says (drives d xs (transactOf d l xs out) i) (wiresFor (settingOf d) (partsOf (settingOf d) xs .kind)) (getD (transactOf d l xs out .output) i 0)
-unfolding clockedOf factsOf over tx.drivenOf
+unfolding clockedOf factsOf over tx.outputOf
 driven d l xs out e i h =
     let p = partsOf (settingOf d) xs in
     let v = judge d (factsOf d l p) in
     let b = bodyFor (settingOf d) (p .kind) (p .address) in
     let n = length (p .commandPart) + length (p .addressPart) + length (p .waitPart) in
-    let ys = tx.drivenOf d l p v in
+    let ys = tx.outputOf d l p v in
     let k = driven-length d l xs v in
     let at : getD (over ys out) i 0 ≡ getD (blank n ++ (middle d l p (isDone v) b ++ undriven (p .restPart))) i 0 =
     List·getD-append ys (drop (length ys) out) 0 i (omega arith)

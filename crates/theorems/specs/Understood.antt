@@ -3,7 +3,7 @@
 -- - the device takes them for just that opcode, that address and that data, and for a read it drives as many bytes as were asked for (65 no more than its register has);
 -- - it finds nothing wrong with the clocks: the answer is none of 1 to 7 and 11. What is left to decide lies in the device's own state and in the value of a
 --   register write: 8, 9, 10, 12, and a read is answered 0;
--- - for a read, handing the device's whole output to the host's other function gives the bytes that the paper says are read there.
+-- - for a read, handing what these clocks put out, all of it, to the host's other function gives the bytes that the paper says are read there.
 -- It is stated over the definitions that `build`, `gather` and `transact` are proved to equal.
 -- Assumes nothing.
 use mathlib.Core.Path.{_≡_, sym, ap, subst, _∙_}
