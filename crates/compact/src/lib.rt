@@ -1,5 +1,6 @@
 // What a record left, in few characters: the chip, digests, and the driven samples.
-use lines::column;
+use columns::column;
+use columns::digest_column;
 use record::Device;
 use text::put;
 use text::put_all;
@@ -68,23 +69,6 @@ pub fn chip(text: &mut [u8], at: usize, d: Device) -> usize {
     let e = flags(text, c, d);
     let f = registers(text, e, d);
     serial(text, f, d)
-}
-
-// A number in which order and length of the bytes both count.
-fn digest(bytes: &[u8]) -> u64 {
-    let mut sum: u64 = 1;
-    let mut i = 0;
-    while i < bytes.len() {
-        sum = (sum % 4294967291 * 65599 + bytes[i] as u64 + 1) % 4294967291;
-        i += 1;
-    }
-    sum
-}
-
-// The digest of bytes, behind a space.
-pub fn digest_column(text: &mut [u8], at: usize, bytes: &[u8]) -> usize {
-    let a = put(text, at, b' ');
-    put_hex(text, a, digest(bytes), 8)
 }
 
 // The place of the first byte that is not 0, or the end.

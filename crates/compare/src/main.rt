@@ -1,11 +1,12 @@
 // Many tapes in one input, each behind its length, and for each record one line with all that it left: the record,
 // digests of memory, area and output, and the driven samples. The second program prints the same.
 use bundles::take_tape;
+use columns::column;
+use columns::digest_column;
+use columns::fill;
 use compact::chip;
-use compact::digest_column;
 use compact::output_columns;
 use judging::Outcome;
-use lines::column;
 use lines::five;
 use lines::last_line;
 use lines::verdict;
@@ -55,15 +56,6 @@ fn stores(text: &mut [u8], at: usize, s: Session, memory: &[u8], area: &[u8]) ->
     }
     let a = digest_column(text, at, &memory[..s.memory]);
     digest_column(text, a, &area[..s.area])
-}
-
-// An output buffer that shows what was written to it.
-fn fill(out: &mut [u8]) {
-    let mut i = 0;
-    while i < out.len() {
-        out[i] = 0xA5;
-        i += 1;
-    }
 }
 
 // The samples of the record at a place.

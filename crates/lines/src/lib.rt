@@ -1,15 +1,10 @@
-// Pieces of the lines that the bench prints: numbers in columns, the five counts, and the last line.
+// Pieces of the lines that the bench prints: the five counts, and the last line.
+use columns::column;
 use counts::Counts;
 use tape::Entry;
 use text::put;
 use text::put_all;
 use text::put_decimal;
-
-// A number behind a space.
-pub fn column(text: &mut [u8], at: usize, v: u64) -> usize {
-    let a = put(text, at, b' ');
-    put_decimal(text, a, v)
-}
 
 // The five counts, in the papers' order.
 pub fn five(text: &mut [u8], at: usize, c: Counts) -> usize {

@@ -6,9 +6,11 @@ use record::Device;
 use record::Registers;
 use record::Volatile;
 use record::mode_wires;
+use text::is_same;
 use text::put_all;
 use text::put_decimal;
 use text::put_hex;
+use text::put_word;
 
 // Two bytes, the old one and the new one, to the end of the line.
 fn put_pair(page: &mut [u8], at: usize, old: u8, new: u8) -> usize {
@@ -24,32 +26,31 @@ fn put_front(page: &mut [u8], at: usize, name: &[u8]) -> usize {
     put_all(page, a, name)
 }
 
-fn put_register(page: &mut [u8], at: usize, name: &[u8], old: u8, new: u8) -> usize {
+// A register, by its number among these.
+fn put_register(page: &mut [u8], at: usize, number: usize, old: u8, new: u8) -> usize {
     if old == new {
         return at;
     }
-    let a = put_front(page, at, name);
+    let a = put_word(
+        page,
+        at,
+        b"  changed   status              |  changed   area protection     \
+        |  changed   configuration 1     |  changed   configuration 2     \
+        |  changed   configuration 3     |  changed   configuration 4     \
+        |  changed   mode register MR0   ",
+        number,
+    );
     put_pair(page, a, old, new)
 }
 
-fn put_configurations(page: &mut [u8], at: usize, old: Registers, new: Registers) -> usize {
-    let a = put_register(page, at, b"configuration 1     ", old.cr1, new.cr1);
-    let b = put_register(page, a, b"configuration 2     ", old.cr2, new.cr2);
-    let c = put_register(page, b, b"configuration 3     ", old.cr3, new.cr3);
-    put_register(page, c, b"configuration 4     ", old.cr4, new.cr4)
-}
-
 fn put_registers(page: &mut [u8], at: usize, old: Registers, new: Registers) -> usize {
-    let a = put_register(page, at, b"status              ", old.status, new.status);
-    let b = put_register(
-        page,
-        a,
-        b"area protection     ",
-        old.protection,
-        new.protection,
-    );
-    let c = put_configurations(page, b, old, new);
-    put_register(page, c, b"mode register MR0   ", old.mr0, new.mr0)
+    let a = put_register(page, at, 0, old.status, new.status);
+    let b = put_register(page, a, 1, old.protection, new.protection);
+    let c = put_register(page, b, 2, old.cr1, new.cr1);
+    let d = put_register(page, c, 3, old.cr2, new.cr2);
+    let e = put_register(page, d, 4, old.cr3, new.cr3);
+    let f = put_register(page, e, 5, old.cr4, new.cr4);
+    put_register(page, f, 6, old.mr0, new.mr0)
 }
 
 fn put_mode(page: &mut [u8], at: usize, old: u8, new: u8) -> usize {
@@ -63,89 +64,33 @@ fn put_mode(page: &mut [u8], at: usize, old: u8, new: u8) -> usize {
     put_all(page, d, b"\n")
 }
 
-// A flag whose two states have these words.
-fn put_flag(page: &mut [u8], at: usize, name: &[u8], new: bool, on: &[u8], off: &[u8]) -> usize {
-    let a = put_front(page, at, name);
-    if new {
-        return put_all(page, a, on);
-    }
-    put_all(page, a, off)
-}
-
-fn put_latch(page: &mut [u8], at: usize, old: bool, new: bool) -> usize {
+// A flag that went up or down, by the numbers of its two lines among these.
+fn put_flag(page: &mut [u8], at: usize, up: usize, down: usize, old: bool, new: bool) -> usize {
     if old == new {
         return at;
     }
-    put_flag(
+    let n = if new { up } else { down };
+    put_word(
         page,
         at,
-        b"write latch         ",
-        new,
-        b"down -> up\n",
-        b"up -> down\n",
-    )
-}
-
-fn put_arming(page: &mut [u8], at: usize, old: bool, new: bool) -> usize {
-    if old == new {
-        return at;
-    }
-    put_flag(
-        page,
-        at,
-        b"arming              ",
-        new,
-        b"disarmed -> armed\n",
-        b"armed -> disarmed\n",
-    )
-}
-
-fn put_sleep(page: &mut [u8], at: usize, old: bool, new: bool) -> usize {
-    if old == new {
-        return at;
-    }
-    put_flag(
-        page,
-        at,
-        b"sleep               ",
-        new,
-        b"awake -> asleep\n",
-        b"asleep -> awake\n",
-    )
-}
-
-fn put_toggle(page: &mut [u8], at: usize, old: bool, new: bool) -> usize {
-    if old == new {
-        return at;
-    }
-    put_flag(
-        page,
-        at,
-        b"toggle              ",
-        new,
-        b"off -> on\n",
-        b"on -> off\n",
+        b"  changed   write latch         down -> up\n\
+        |  changed   write latch         up -> down\n\
+        |  changed   arming              disarmed -> armed\n\
+        |  changed   arming              armed -> disarmed\n\
+        |  changed   sleep               awake -> asleep\n\
+        |  changed   sleep               asleep -> awake\n\
+        |  changed   toggle              off -> on\n\
+        |  changed   toggle              on -> off\n",
+        n,
     )
 }
 
 fn put_volatile(page: &mut [u8], at: usize, old: Volatile, new: Volatile) -> usize {
     let a = put_mode(page, at, old.mode, new.mode);
-    let b = put_latch(page, a, old.latch, new.latch);
-    let c = put_arming(page, b, old.armed, new.armed);
-    let d = put_sleep(page, c, old.asleep, new.asleep);
-    put_toggle(page, d, old.toggle, new.toggle)
-}
-
-fn is_same(a: &[u8], b: &[u8]) -> bool {
-    let mut i = 0;
-    while i < a.len() {
-        let x = a[i];
-        if x != byte_at(b, i) {
-            return false;
-        }
-        i += 1;
-    }
-    true
+    let b = put_flag(page, a, 0, 1, old.latch, new.latch);
+    let c = put_flag(page, b, 2, 3, old.armed, new.armed);
+    let d = put_flag(page, c, 4, 5, old.asleep, new.asleep);
+    put_flag(page, d, 6, 7, old.toggle, new.toggle)
 }
 
 fn put_serial(page: &mut [u8], at: usize, old: [u8; 8], new: [u8; 8]) -> usize {

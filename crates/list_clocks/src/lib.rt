@@ -123,7 +123,7 @@ pub fn put_counts(page: &mut [u8], at: usize, v: View, c: Counts) -> usize {
 }
 
 // The first `n` bytes in a row.
-fn put_first(page: &mut [u8], at: usize, label: &[u8], bytes: &[u8], n: usize) -> usize {
+pub fn put_first(page: &mut [u8], at: usize, label: &[u8], bytes: &[u8], n: usize) -> usize {
     if n <= bytes.len() {
         return put_row(page, at, label, &bytes[..n]);
     }

@@ -1,101 +1,128 @@
-// Names for people: parts, wires, commands.
+// Names for people: parts, wires, commands. A match gives the name's number in a list, since an arm that puts text is
+// dear to prove.
 use opcodes::Control;
 use opcodes::Kind;
 use opcodes::Reading;
 use opcodes::Register;
 use opcodes::Writing;
 use parts::Part;
-use text::put_all;
+use text::put_word;
 use units::Wires;
 
 pub fn put_part(page: &mut [u8], at: usize, p: Part) -> usize {
-    match p {
-        Part::M => put_all(page, at, b"part M"),
-        Part::P => put_all(page, at, b"part P"),
-    }
+    let n = match p {
+        Part::M => 0,
+        Part::P => 1,
+    };
+    put_word(page, at, b"part M|part P", n)
 }
 
 pub fn put_wires(page: &mut [u8], at: usize, w: Wires) -> usize {
-    match w {
-        Wires::One => put_all(page, at, b"one wire"),
-        Wires::Two => put_all(page, at, b"two wires"),
-        Wires::Four => put_all(page, at, b"four wires"),
-    }
+    let n = match w {
+        Wires::One => 0,
+        Wires::Two => 1,
+        Wires::Four => 2,
+    };
+    put_word(page, at, b"one wire|two wires|four wires", n)
 }
 
-fn put_control(page: &mut [u8], at: usize, c: Control) -> usize {
+// What a command is about, by its number in the list of `put_kind`.
+fn control(c: Control) -> usize {
     match c {
-        Control::NoOperation => put_all(page, at, b"no operation"),
-        Control::WriteEnable => put_all(page, at, b"write enable"),
-        Control::WriteDisable => put_all(page, at, b"write disable"),
-        Control::ToOne => put_all(page, at, b"go to one wire"),
-        Control::ToTwo => put_all(page, at, b"go to two wires"),
-        Control::ToFour => put_all(page, at, b"go to four wires"),
-        Control::Sleep => put_all(page, at, b"sleep"),
-        Control::Wake => put_all(page, at, b"wake"),
-        Control::ResetEnable => put_all(page, at, b"reset enable"),
-        Control::Reset => put_all(page, at, b"reset"),
-        Control::Toggle => put_all(page, at, b"toggle the wrap length"),
+        Control::NoOperation => 1,
+        Control::WriteEnable => 2,
+        Control::WriteDisable => 3,
+        Control::ToOne => 4,
+        Control::ToTwo => 5,
+        Control::ToFour => 6,
+        Control::Sleep => 7,
+        Control::Wake => 8,
+        Control::ResetEnable => 9,
+        Control::Reset => 10,
+        Control::Toggle => 11,
     }
 }
 
-fn put_register(page: &mut [u8], at: usize, r: Register) -> usize {
+fn register(r: Register) -> usize {
     match r {
-        Register::Status => put_all(page, at, b"status"),
-        Register::AreaProtection => put_all(page, at, b"area protection"),
-        Register::Configuration1 => put_all(page, at, b"configuration 1"),
-        Register::Configuration2 => put_all(page, at, b"configuration 2"),
-        Register::Configuration3 => put_all(page, at, b"configuration 3"),
-        Register::Configuration4 => put_all(page, at, b"configuration 4"),
-        Register::Configurations => put_all(page, at, b"configurations 1 to 4"),
-        Register::Identity => put_all(page, at, b"identity"),
-        Register::Unique => put_all(page, at, b"unique number"),
-        Register::Serial => put_all(page, at, b"serial number"),
-        Register::ModeRegister => put_all(page, at, b"mode register"),
-        Register::LongIdentity => put_all(page, at, b"identity"),
+        Register::Status => 12,
+        Register::AreaProtection => 13,
+        Register::Configuration1 => 14,
+        Register::Configuration2 => 15,
+        Register::Configuration3 => 16,
+        Register::Configuration4 => 17,
+        Register::Configurations => 18,
+        Register::Identity => 19,
+        Register::Unique => 20,
+        Register::Serial => 21,
+        Register::ModeRegister => 22,
+        Register::LongIdentity => 19,
     }
 }
 
-fn put_register_read(page: &mut [u8], at: usize, r: Register) -> usize {
-    let a = put_all(page, at, b"read ");
-    put_register(page, a, r)
-}
-
-fn put_register_write(page: &mut [u8], at: usize, r: Register) -> usize {
-    let a = put_all(page, at, b"write ");
-    put_register(page, a, r)
-}
-
-fn put_reading(page: &mut [u8], at: usize, r: Reading) -> usize {
+fn reading(r: Reading) -> usize {
     match r {
-        Reading::Plain => put_all(page, at, b"read memory"),
-        Reading::Fast => put_all(page, at, b"fast read"),
-        Reading::Quad => put_all(page, at, b"four-wire read"),
-        Reading::Wrapped => put_all(page, at, b"wrapped read"),
+        Reading::Plain => 23,
+        Reading::Fast => 24,
+        Reading::Quad => 25,
+        Reading::Wrapped => 26,
     }
 }
 
-fn put_writing(page: &mut [u8], at: usize, r: Writing) -> usize {
-    match r {
-        Writing::Plain => put_all(page, at, b"write memory"),
-        Writing::Quad => put_all(page, at, b"four-wire write"),
+fn writing(w: Writing) -> usize {
+    match w {
+        Writing::Plain => 27,
+        Writing::Quad => 28,
+    }
+}
+
+fn subject(k: Kind) -> usize {
+    match k {
+        Kind::Unknown => 0,
+        Kind::Plain(c) => control(c),
+        Kind::ReadRegister(r) => register(r),
+        Kind::ReadAny => 29,
+        Kind::ReadMode => 22,
+        Kind::ReadIdentity => 19,
+        Kind::WriteRegister(r) => register(r),
+        Kind::WriteMode => 22,
+        Kind::ReadMemory(r) => reading(r),
+        Kind::WriteMemory(w) => writing(w),
+        Kind::ReadArea => 30,
+        Kind::WriteArea => 30,
+    }
+}
+
+// What stands before it.
+fn front(k: Kind) -> usize {
+    match k {
+        Kind::Unknown => 0,
+        Kind::Plain(_) => 1,
+        Kind::ReadRegister(_) => 2,
+        Kind::ReadAny => 2,
+        Kind::ReadMode => 2,
+        Kind::ReadIdentity => 2,
+        Kind::WriteRegister(_) => 3,
+        Kind::WriteMode => 3,
+        Kind::ReadMemory(_) => 1,
+        Kind::WriteMemory(_) => 1,
+        Kind::ReadArea => 2,
+        Kind::WriteArea => 3,
     }
 }
 
 // The name of a command.
 pub fn put_kind(page: &mut [u8], at: usize, k: Kind) -> usize {
-    match k {
-        Kind::Unknown => put_all(page, at, b"unknown"),
-        Kind::Plain(c) => put_control(page, at, c),
-        Kind::ReadRegister(r) => put_register_read(page, at, r),
-        Kind::ReadAny => put_all(page, at, b"read any register"),
-        Kind::ReadMode => put_all(page, at, b"read mode register"),
-        Kind::ReadIdentity => put_all(page, at, b"read identity"),
-        Kind::WriteRegister(r) => put_register_write(page, at, r),
-        Kind::WriteMode => put_all(page, at, b"write mode register"),
-        Kind::ReadMemory(r) => put_reading(page, at, r),
-        Kind::WriteMemory(r) => put_writing(page, at, r),
-        Kind::ReadArea => put_all(page, at, b"read augmented area"),
-        Kind::WriteArea => put_all(page, at, b"write augmented area"),
-    }
+    let a = put_word(page, at, b"unknown||read |write ", front(k));
+    put_word(
+        page,
+        a,
+        b"|no operation|write enable|write disable|go to one wire|go to two wires|go to four wires\
+        |sleep|wake|reset enable|reset|toggle the wrap length\
+        |status|area protection|configuration 1|configuration 2|configuration 3|configuration 4\
+        |configurations 1 to 4|identity|unique number|serial number|mode register\
+        |read memory|fast read|four-wire read|wrapped read|write memory|four-wire write\
+        |any register|augmented area",
+        subject(k),
+    )
 }

@@ -2,232 +2,127 @@
 // and why it is answered so.
 //
 // It reads the file that its first argument names, or standard input.
-mod endings;
-
-use crate::endings::put_last;
-use judging::Outcome;
+use list_endings::put_last;
 use list_paragraphs::put_head;
 use list_paragraphs::put_played;
-use record::Device;
-use tape::Entry;
+use session::Session;
+use session::Turn;
 use text::put_all;
 use units::Bytes;
 
-// What goes from record to record: the place on the tape, whether a chip is in the socket, which, and the bytes
-// that it has; the place on the page; and whether there is another record to look at.
+// What goes from record to record: the session, the place on the page, and whether to go on.
 struct State {
-    at: usize,
-    chip: bool,
-    device: Device,
-    memory: usize,
-    area: usize,
+    session: Session,
     to: usize,
     go: bool,
 }
 
-// Before the first record. The socket is empty, and nothing asks for the device.
 fn start(to: usize) -> State {
     State {
-        at: 0,
-        chip: false,
-        device: Device::fresh_p(10, [0; 8]),
-        memory: 0,
-        area: 0,
+        session: session::start(),
         to,
         go: true,
     }
 }
 
-// The bytes of the chip that the record plays on: a fresh one brings its own.
-fn sized(s: State, e: Entry) -> State {
-    let device = s.device;
-    match e {
-        Entry::End => s,
-        Entry::Bad => s,
-        Entry::Transaction => s,
-        Entry::PowerCycle => s,
-        Entry::Fresh { part, n } => {
-            let socket = tape::socket_of(part, n);
-            State {
-                at: s.at,
-                chip: true,
-                device,
-                memory: socket.memory,
-                area: socket.area,
-                to: s.to,
-                go: true,
-            }
-        }
-    }
-}
-
-// The tape is at its end, or at a record that is bad.
-fn stopped(s: State, to: usize) -> State {
-    let device = s.device;
-    State {
-        at: s.at,
-        chip: s.chip,
-        device,
-        memory: s.memory,
-        area: s.area,
-        to,
-        go: false,
-    }
-}
-
-fn stop(s: State, k: u64, e: Entry, tape: &[u8], page: &mut [u8]) -> State {
-    let a = put_last(page, s.to, k, e, tape, s.at);
-    stopped(s, text::flush(page, a))
-}
-
-// After a record that was played.
-fn went_on(s: State, o: Outcome, next: usize, to: usize) -> State {
-    let device = o.device;
-    State {
-        at: next,
-        chip: true,
-        device,
-        memory: s.memory,
-        area: s.area,
-        to,
-        go: true,
-    }
-}
-
-// The bytes as they are before a record, to be compared with those after it.
-fn keep(memory0: &mut [u8], memory: &[u8], area0: &mut [u8], area: &[u8]) {
+// A record played, and the bytes as they were before it, to be compared with those after it.
+fn advance(
+    s: Session,
+    tape: &[u8],
+    memory: &mut [u8],
+    area: &mut [u8],
+    output: &mut [u8],
+    memory0: &mut [u8],
+    area0: &mut [u8],
+) -> Turn {
     put_all(memory0, 0, memory);
     put_all(area0, 0, area);
+    session::advance(s, tape, memory, area, output)
 }
 
-// The paragraph of record `k`, which was played from `s`.
-fn told(
-    s: State,
+// The paragraph of record `k`, which was played from `s`, on the chip's part of memory and area.
+fn put_turn(
+    page: &mut [u8],
+    at: usize,
     k: u64,
-    o: Outcome,
+    s: Session,
+    t: Turn,
     tape: &[u8],
     output: &[u8],
     memory0: &[u8],
     memory: &[u8],
     area0: &[u8],
     area: &[u8],
-    page: &mut [u8],
-) -> State {
-    let at = s.at;
+) -> usize {
     let d = s.device;
-    let f = tape::entry_at(tape, at);
-    let a = put_head(page, s.to, k, at);
-    let b = put_played(page, a, d, f, o, tape, output, memory0, memory, area0, area);
-    went_on(s, o, f.next, text::flush_full(page, b))
-}
-
-// A record that is good, played on the bytes that the chip has.
-fn play(
-    s: State,
-    k: u64,
-    tape: &[u8],
-    memory: &mut [u8],
-    area: &mut [u8],
-    output: &mut [u8],
-    memory0: &mut [u8],
-    area0: &mut [u8],
-    page: &mut [u8],
-) -> State {
-    let at = s.at;
-    let d = s.device;
-    keep(memory0, memory, area0, area);
-    let o = tape::play_at(tape, at, d, memory, area, output);
-    told(s, k, o, tape, output, memory0, memory, area0, area, page)
-}
-
-// The same on so much of the area as the chip has, and of the memory.
-fn play_area(
-    s: State,
-    k: u64,
-    tape: &[u8],
-    memory: &mut [u8],
-    area: &mut [u8],
-    output: &mut [u8],
-    memory0: &mut [u8],
-    area0: &mut [u8],
-    page: &mut [u8],
-) -> State {
-    let n = s.area;
-    if n <= area.len() {
-        return play(
-            s,
-            k,
-            tape,
-            memory,
-            &mut area[..n],
-            output,
-            memory0,
-            area0,
-            page,
-        );
+    let o = t.outcome;
+    let next = t.session;
+    let size = next.memory;
+    let edge = next.area;
+    if memory.len() < size {
+        return at;
     }
-    stopped(s, 0)
-}
-
-fn play_memory(
-    s: State,
-    k: u64,
-    tape: &[u8],
-    memory: &mut [u8],
-    area: &mut [u8],
-    output: &mut [u8],
-    memory0: &mut [u8],
-    area0: &mut [u8],
-    page: &mut [u8],
-) -> State {
-    let n = s.memory;
-    if n <= memory.len() {
-        return play_area(
-            s,
-            k,
-            tape,
-            &mut memory[..n],
-            area,
-            output,
-            memory0,
-            area0,
-            page,
-        );
-    }
-    stopped(s, 0)
-}
-
-// One record, number `k` from 0, unless the tape has ended.
-fn turn(
-    s: State,
-    k: u64,
-    tape: &[u8],
-    memory: &mut [u8],
-    area: &mut [u8],
-    output: &mut [u8],
-    memory0: &mut [u8],
-    area0: &mut [u8],
-    page: &mut [u8],
-) -> State {
-    if !s.go {
-        return s;
+    if area.len() < edge {
+        return at;
     }
     let f = tape::entry_at(tape, s.at);
-    let e = f.entry;
-    if !tape::is_good(s.chip, e) {
-        return stop(s, k, e, tape, page);
-    }
-    play_memory(
-        sized(s, e),
-        k,
+    let a = put_head(page, at, k, s.at);
+    put_played(
+        page,
+        a,
+        d,
+        f,
+        o,
         tape,
-        memory,
-        area,
         output,
         memory0,
+        &memory[..size],
         area0,
-        page,
+        &area[..edge],
     )
+}
+
+// Record `k`, number 0 the first.
+fn turn(
+    st: State,
+    k: u64,
+    tape: &[u8],
+    memory: &mut [u8],
+    area: &mut [u8],
+    output: &mut [u8],
+    memory0: &mut [u8],
+    area0: &mut [u8],
+    page: &mut [u8],
+) -> State {
+    let s = st.session;
+    let t = advance(s, tape, memory, area, output, memory0, area0);
+    let e = t.entry;
+    let next = t.session;
+    if !t.good {
+        return State {
+            session: next,
+            to: put_last(page, st.to, k, e, tape, s.at),
+            go: false,
+        };
+    }
+    let a = put_turn(
+        page,
+        st.to,
+        k,
+        s,
+        t,
+        tape,
+        output,
+        memory0,
+        memory,
+        area0,
+        area,
+    );
+    State {
+        session: next,
+        to: text::flush_full(page, a),
+        go: true,
+    }
 }
 
 // Every record, to the end or to one that is bad. A tape has no more than 16,384.
@@ -241,12 +136,14 @@ fn run(
     page: &mut [u8],
     to: usize,
 ) {
-    let mut s = start(to);
+    let mut st = start(to);
     let mut k = 0;
-    while k < 16385 {
-        s = turn(s, k, tape, memory, area, output, memory0, area0, page);
+    while k < 16385 && st.go {
+        let before = k;
         k += 1;
+        st = turn(st, before, tape, memory, area, output, memory0, area0, page);
     }
+    text::flush(page, st.to);
 }
 
 // The tape's own line.

@@ -19,7 +19,7 @@ use Rattle.record.specs.Answers.{answerNumber}
 use Rattle.record.specs.Devices.{settingOf}
 use Rattle.record.specs.Fresh.{freshM, freshP}
 use Rattle.record.specs.Latches.{latchMissing}
-use Rattle.record.specs.Changes.{sleepTo, modeTo, modeRegisterTo, statusTo, configurationsTo}
+use Rattle.record.specs.Changes.{latchTo, sleepTo, modeTo, modeRegisterTo, statusTo, configurationsTo}
 use Rattle.values.specs.Values.{statusAllowed, cr3Allowed, cr4Allowed, configurationsAllowed, modeRegisterAllowed}
 use Rattle.values.specs.States.{modeAllowed, zeros, registersM, registersP, volatileM, volatileP, identityM, identityP, validOf}
 use Rattle.places.specs.Places.{readSpan, writeSpan, placeIn}
@@ -138,6 +138,10 @@ namedM = freshM 10 (1 ∷ 2 ∷ 3 ∷ 4 ∷ []) (11 ∷ 12 ∷ 13 ∷ 14 ∷ 15 
 abbrev namedP : Device
 namedP = freshP 10 (1 ∷ 2 ∷ 3 ∷ 4 ∷ 5 ∷ 6 ∷ 7 ∷ 8 ∷ [])
 
+-- so many bytes of part M's identity
+abbrev reads9F : ℕ → Order
+reads9F n = record { part = 1; opcode = 0x9F; mode = 1; address = 0; cr2 = 0; written = []; wanted = bytes n }
+
 -- a read that the host builds, sent to a device, and gathered from what it drives on the wires of its data
 abbrev asks : Device → Lent → ℕ → ℕ → ℕ → ℕ → ℕ → Told Bytes
 asks d l opcode mode address wanted wires =
@@ -164,6 +168,16 @@ further =
     ∷ same (asks namedM (onM (blank 1024)) 0x65 1 0x30 8 1 .buffer) (1 ∷ 2 ∷ 3 ∷ 4 ∷ replicate 6 0xA5)
     ∷ same (asks namedM (onM (blank 1024)) 0x65 1 0x40 3 1 .buffer) (11 ∷ 12 ∷ 13 ∷ replicate 7 0xA5)
     ∷ same (asks namedP (onP (blank 1024)) 0x9F 1 0 8 1 .buffer) (1 ∷ 2 ∷ 3 ∷ 4 ∷ 5 ∷ 6 ∷ 7 ∷ 8 ∷ replicate 2 0xA5)
+    -- a register write puts its value in, with a clock more it is 11; past a register's size clocks are rest
+    ∷ eqb (sent (latchTo true m) (onM (blank 1024)) (byte One 0x01 ++ byte One 0x1C) .device .registers .status) 0x1C
+    ∷ answers (sent (latchTo true m) (onM (blank 1024)) (byte One 0x01 ++ (byte One 0x1C ++ (0 ∷ [])))) 11 (8 ∷ 0 ∷ 0 ∷ 8 ∷ 1 ∷ [])
+    ∷ answers (sent m (onM (blank 1024)) (byte One 0x05 ++ blank 12)) 0 (8 ∷ 0 ∷ 0 ∷ 8 ∷ 4 ∷ [])
+    -- the host refuses a byte more than a register has
+    ∷ eqb (answerNumber (asks namedM (onM (blank 1024)) 0x9F 1 0 4 1 .answer)) 0
+    ∷ eqb (answerNumber (buildOf (reads9F 5) (replicate 128 0xA5) .answer)) 11
+    -- power: part P forgets, part M does not
+    ∷ same (powerOf p (onP (set (blank 1024) 5 0x77)) .lent .memory) (blank 1024)
+    ∷ eqb (getD (powerOf m (onM (set (blank 1024) 5 0x77)) .lent .memory) 5 0) 0x77
     -- arming: a reset right after 66, not once more, and not after something else
     ∷ same (answersIn m (byte One 0x66 ∷ byte One 0x99 ∷ byte One 0x99 ∷ [])) (0 ∷ 0 ∷ 12 ∷ [])
     ∷ same (answersIn m (byte One 0x66 ∷ byte One 0x00 ∷ byte One 0x99 ∷ [])) (0 ∷ 0 ∷ 12 ∷ [])

@@ -1,6 +1,6 @@
 // The bench's lines for a tape: the header, one line a record, and the verdict.
+use columns::column;
 use judging::Outcome;
-use lines::column;
 use lines::five;
 use lines::last_line;
 use lines::verdict;

@@ -1,1 +1,3 @@
 pub mod Upper
+pub mod Words
+pub mod Same

@@ -4,8 +4,51 @@ ghost use mathlib.Core.Path.{_≡_};
 ghost use mathlib.Core.List.{map};
 ghost use Rattle.pages.specs.Page.{page, putsOf};
 ghost use Rattle.text.specs.Upper.{upperOf};
+ghost use Rattle.text.specs.Words.{wordOf};
+ghost use Rattle.text.specs.Same.{isSame};
 pub use pages::put;
 pub use pages::put_all;
+
+// One word of a list, number 0 the first. Bars stand between the words.
+pub fn put_word(text: &mut [u8], at: usize, words: &[u8], number: usize) -> usize
+    ensures { λ r. ⌜ page r (now (text .exit)) ≡ putsOf (wordOf number (now (words .entry))) (page at (now (text .entry))) ⌝ }
+{
+    let mut to = at;
+    let mut left = number;
+    let mut i = 0;
+    while i < words.len() {
+        let b = words[i];
+        i += 1;
+        if b == b'|' {
+            if left == 0 {
+                return to;
+            }
+            left -= 1;
+        } else if left == 0 {
+            to = put(text, to, b);
+        }
+    }
+    to
+}
+
+// Whether two texts are the same.
+pub fn is_same(a: &[u8], b: &[u8]) -> bool
+    ensures { λ r. ⌜ r ≡ isSame (now (a .entry)) (now (b .entry)) ⌝ }
+{
+    if a.len() != b.len() {
+        return false;
+    }
+    let mut i = 0;
+    while i < a.len() {
+        let x = a[i];
+        let y = b[i];
+        i += 1;
+        if x != y {
+            return false;
+        }
+    }
+    true
+}
 
 // A number in decimal.
 pub fn put_decimal(text: &mut [u8], at: usize, v: u64) -> usize {
@@ -48,23 +91,33 @@ pub fn put_hex(text: &mut [u8], at: usize, v: u64, width: usize) -> usize {
     put_upper(text, at, &digits[..n])
 }
 
-// Bytes in hexadecimal, two digits each.
-pub fn put_bytes(text: &mut [u8], at: usize, bytes: &[u8]) -> usize {
+// Bytes in hexadecimal, with so many digits each at least.
+pub fn put_each(text: &mut [u8], at: usize, bytes: &[u8], width: usize) -> usize {
     let mut to = at;
     let mut i = 0;
     while i < bytes.len() {
-        to = put_hex(text, to, bytes[i] as u64, 2);
+        to = put_hex(text, to, bytes[i] as u64, width);
         i += 1;
     }
     to
 }
 
-// Writes what stands before a place to standard output. The next text begins at the front.
-pub fn flush(text: &[u8], at: usize) -> usize {
+// Bytes in hexadecimal, two digits each.
+pub fn put_bytes(text: &mut [u8], at: usize, bytes: &[u8]) -> usize {
+    put_each(text, at, bytes, 2)
+}
+
+// Writes what stands before a place to a file. The next text begins at the front.
+pub fn flush_to(fd: i32, text: &[u8], at: usize) -> usize {
     if at <= text.len() {
-        io::write_all(1, &text[..at]);
+        io::write_all(fd, &text[..at]);
     }
     0
+}
+
+// The same to standard output.
+pub fn flush(text: &[u8], at: usize) -> usize {
+    flush_to(1, text, at)
 }
 
 // The same once half of the buffer is full.

@@ -8,7 +8,7 @@ use lib.ListN.{length, drop, drop-of-length-le}
 use Rattle.pages.specs.Page.{page}
 use Rattle.pages.specs.Laws.{Left, none-put, put-one, all-put, drop-one}
 use Rattle.text.specs.Upper.{upperOf}
-use mathlib.Core.Path.{ap}
+use mathlib.Core.Path.{sym, ap, _∙_}
 use Rattle.text.proofs.put_upper.Statement.{statement}
 use Rattle.text.proofs.put_upper.Tie as tie
 

@@ -1,0 +1,36 @@
+// Columns of the lines that are held against the second program: numbers, and digests of what is too long to print.
+use text::put;
+use text::put_decimal;
+use text::put_hex;
+
+// A number behind a space.
+pub fn column(text: &mut [u8], at: usize, v: u64) -> usize {
+    let a = put(text, at, b' ');
+    put_decimal(text, a, v)
+}
+
+// A number in which order and length of the bytes both count.
+fn digest(bytes: &[u8]) -> u64 {
+    let mut sum: u64 = 1;
+    let mut i = 0;
+    while i < bytes.len() {
+        sum = (sum % 4294967291 * 65599 + bytes[i] as u64 + 1) % 4294967291;
+        i += 1;
+    }
+    sum
+}
+
+// The digest of bytes, behind a space.
+pub fn digest_column(text: &mut [u8], at: usize, bytes: &[u8]) -> usize {
+    let a = put(text, at, b' ');
+    put_hex(text, a, digest(bytes), 8)
+}
+
+// A buffer that shows what is written to it later.
+pub fn fill(out: &mut [u8]) {
+    let mut i = 0;
+    while i < out.len() {
+        out[i] = 0xA5;
+        i += 1;
+    }
+}

@@ -1,0 +1,280 @@
+// Prints the tables of docs/MODEL.md from the code that is proved equal to the definitions: the commands of both parts,
+// part M's register map, and the lengths and shares by register value. A row is a function of its own.
+use commands::plans::Address;
+use commands::plans::Body;
+use commands::plans::address_of;
+use commands::plans::body_of;
+use commands::plans::later_wires;
+use commands::plans::wait_of;
+use commands::registers::Mapped;
+use commands::registers::register_at;
+use list_names::put_kind;
+use list_names::put_part;
+use opcodes::Kind;
+use opcodes::kind_of;
+use parts::Part;
+use parts::group_length;
+use parts::share;
+use parts::wrap_length;
+use phases::is_unknown;
+use text::flush;
+use text::put;
+use text::put_all;
+use text::put_decimal;
+use text::put_hex;
+use text::put_word;
+use units::Bytes;
+use units::Wires;
+
+// Configuration 2 of a fresh chip, by which the wait of 4B is shown.
+const CR2: u8 = 8;
+
+// ---- the commands
+
+// The kind of an opcode in the first bus mode that has it.
+fn kind_in(p: Part, opcode: u8) -> Kind {
+    let one = kind_of(p, Wires::One, opcode);
+    if !is_unknown(one) {
+        return one;
+    }
+    let two = kind_of(p, Wires::Two, opcode);
+    if !is_unknown(two) {
+        return two;
+    }
+    kind_of(p, Wires::Four, opcode)
+}
+
+// A bus mode, where the opcode is known in it.
+fn put_mode(page: &mut [u8], at: usize, p: Part, w: Wires, opcode: u8, digit: u8) -> usize {
+    if is_unknown(kind_of(p, w, opcode)) {
+        return at;
+    }
+    let a = put(page, at, digit);
+    put(page, a, b' ')
+}
+
+fn put_modes(page: &mut [u8], at: usize, p: Part, opcode: u8) -> usize {
+    let a = put_all(page, at, b" | ");
+    let b = put_mode(page, a, p, Wires::One, opcode, b'1');
+    let c = put_mode(page, b, p, Wires::Two, opcode, b'2');
+    put_mode(page, c, p, Wires::Four, opcode, b'4')
+}
+
+// The wait in it.
+fn put_wait(page: &mut [u8], at: usize, p: Part, w: Wires, opcode: u8) -> usize {
+    let k = kind_of(p, w, opcode);
+    if is_unknown(k) {
+        return at;
+    }
+    let a = put_decimal(page, at, wait_of(k, w, CR2).0 as u64);
+    put(page, a, b' ')
+}
+
+fn put_waits(page: &mut [u8], at: usize, p: Part, opcode: u8) -> usize {
+    let a = put_all(page, at, b" | ");
+    let b = put_wait(page, a, p, Wires::One, opcode);
+    let c = put_wait(page, b, p, Wires::Two, opcode);
+    put_wait(page, c, p, Wires::Four, opcode)
+}
+
+// On which wires all but the command travels, by its number in a list.
+fn later_word(w: Wires) -> usize {
+    match w {
+        Wires::One => 0,
+        Wires::Two => 0,
+        Wires::Four => 1,
+    }
+}
+
+// What the address names, by its number in a list.
+fn address_word(a: Address) -> usize {
+    match a {
+        Address::Absent => 0,
+        Address::InMemory => 1,
+        Address::InArea => 2,
+        Address::InMap => 3,
+        Address::LowNibbleZero => 4,
+        Address::Ignored => 5,
+    }
+}
+
+fn put_plan(page: &mut [u8], at: usize, k: Kind) -> usize {
+    let a = put_all(page, at, b"| ");
+    let b = put_word(
+        page,
+        a,
+        b"bus mode|four wires",
+        later_word(later_wires(k, Wires::One)),
+    );
+    let c = put_all(page, b, b" | ");
+    put_word(
+        page,
+        c,
+        b"none|memory|area|map|low four bits 0|ignored",
+        address_word(address_of(k)),
+    )
+}
+
+fn body_word(b: Body) -> usize {
+    match b {
+        Body::Nothing => 0,
+        Body::FixedRead(_) => 1,
+        Body::AnyRead => 2,
+        Body::FixedWrite(_) => 3,
+        Body::AnyWrite => 4,
+    }
+}
+
+fn body_size(b: Body) -> Bytes {
+    match b {
+        Body::Nothing => Bytes(0),
+        Body::FixedRead(n) => n,
+        Body::AnyRead => Bytes(0),
+        Body::FixedWrite(n) => n,
+        Body::AnyWrite => Bytes(0),
+    }
+}
+
+// The data; of 65 that of the register at 00h.
+fn put_body(page: &mut [u8], at: usize, b: Body) -> usize {
+    let n = body_size(b);
+    let a = put_all(page, at, b"| ");
+    let c = put_word(
+        page,
+        a,
+        b"none|read |read any|write |write any",
+        body_word(b),
+    );
+    if n.0 == 0 {
+        return put_all(page, c, b" |\n");
+    }
+    let d = put_decimal(page, c, n.0 as u64);
+    put_all(page, d, b" |\n")
+}
+
+fn put_command(page: &mut [u8], p: Part, opcode: u8, k: Kind) -> usize {
+    let a = put_all(page, 0, b"| ");
+    let b = put_hex(page, a, opcode as u64, 2);
+    let c = put_all(page, b, b" | ");
+    let d = put_kind(page, c, k);
+    put_modes(page, d, p, opcode)
+}
+
+fn command_row(page: &mut [u8], p: Part, opcode: u8) {
+    let k = kind_in(p, opcode);
+    if is_unknown(k) {
+        return;
+    }
+    let a = put_command(page, p, opcode, k);
+    let b = put_plan(page, a, k);
+    let c = put_waits(page, b, p, opcode);
+    let d = put_body(page, c, body_of(p, k, 0));
+    flush(page, d);
+}
+
+fn put_commands(page: &mut [u8], p: Part) {
+    let a = put_all(page, 0, b"\n### Commands of ");
+    let b = put_part(page, a, p);
+    let c = put_all(
+        page,
+        b,
+        b"\n\n| opcode | command | bus modes | all but the command on | address | wait in each mode, clocks | data, bytes |\n|---|---|---|---|---|---|---|\n",
+    );
+    flush(page, c);
+}
+
+// ---- the register map
+
+fn mapped_kind(m: Mapped) -> Kind {
+    match m {
+        Mapped::At(r) => Kind::ReadRegister(r),
+        Mapped::Nowhere => Kind::Unknown,
+    }
+}
+
+fn map_row(page: &mut [u8], address: u32) {
+    let k = mapped_kind(register_at(Part::M, address));
+    if is_unknown(k) {
+        return;
+    }
+    let a = put_all(page, 0, b"| ");
+    let b = put_hex(page, a, address as u64, 6);
+    let c = put_all(page, b, b" | ");
+    let d = put_kind(page, c, k);
+    let e = put_all(page, d, b" ");
+    let f = put_body(page, e, body_of(Part::M, k, 0));
+    flush(page, f);
+}
+
+// ---- lengths and shares
+
+fn number_row(page: &mut [u8], code: u64, n: u64) {
+    let a = put_all(page, 0, b"| ");
+    let b = put_decimal(page, a, code);
+    let c = put_all(page, b, b" | ");
+    let d = put_decimal(page, c, n);
+    let e = put_all(page, d, b" |\n");
+    flush(page, e);
+}
+
+// Row `i` of a table, as far as there is one.
+fn row(page: &mut [u8], table: u8, i: u32) {
+    let b = (i % 256) as u8;
+    if table == 0 {
+        return command_row(page, Part::M, b);
+    }
+    if table == 1 {
+        return command_row(page, Part::P, b);
+    }
+    if table == 2 {
+        return map_row(page, i);
+    }
+    if table == 3 {
+        return number_row(page, i as u64, share(b % 8 * 4) as u64);
+    }
+    if table == 4 {
+        return number_row(page, i as u64, wrap_length(b).0 as u64);
+    }
+    number_row(page, i as u64, group_length(b % 4 * 32).0 as u64);
+}
+
+fn rows(page: &mut [u8], table: u8, n: u32) {
+    let mut i: u32 = 0;
+    while i < n {
+        row(page, table, i);
+        i += 1;
+    }
+}
+
+fn head(page: &mut [u8], text: &[u8]) {
+    let a = put_all(page, 0, text);
+    flush(page, a);
+}
+
+fn main() {
+    let mut page = [0u8; 512];
+    put_commands(&mut page, Part::M);
+    rows(&mut page, 0, 256);
+    put_commands(&mut page, Part::P);
+    rows(&mut page, 1, 256);
+    head(
+        &mut page,
+        b"\n### Registers by address, for 65\n\n| address | register | data, bytes |\n|---|---|---|\n",
+    );
+    rows(&mut page, 2, 256);
+    head(
+        &mut page,
+        b"\n### Protected memory, by status bits 4 to 2\n\n| code | 64ths |\n|---|---|\n",
+    );
+    rows(&mut page, 3, 8);
+    head(
+        &mut page,
+        b"\n### Groups of part M's reads, by CR3[2:0]\n\n| code | bytes |\n|---|---|\n",
+    );
+    rows(&mut page, 4, 5);
+    head(
+        &mut page,
+        b"\n### Groups of part P, by MR0[6:5]\n\n| code | bytes |\n|---|---|\n",
+    );
+    rows(&mut page, 5, 4);
+}
