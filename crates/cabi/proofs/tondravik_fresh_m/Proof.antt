@@ -1,0 +1,42 @@
+-- `cabi::tondravik_fresh_m` meets its contract: each way is a test of the definition.
+-- Assumes nothing.
+use borrow.Author.Needs.{needs}
+use Rattle.chips.specs.Laws.{eight-whole}
+use Rattle.cabi.specs.Calls.{freshMIn}
+use borrow.Author.Tests.{not-true, not-false, eq-eqb, ne-eqb}
+use Rattle.cabi.proofs.tondravik_fresh_m.Statement.{statement}
+use Rattle.cabi.proofs.tondravik_fresh_m.Tie as tie
+
+pub tondravik-fresh-m-spec : {M : Type 1} → statement M
+unfolding freshMIn
+tondravik-fresh-m-spec =
+    tie.close
+    (tie.spec
+    -- returns
+    (λ c. rw (ne-eqb _ _ (c .if1 .taken)))
+    -- is-offered-requires
+    (λ c κs. search needs)
+    -- returns-2
+    (λ c. rw (eq-eqb _ _ (c .before .before .if1 .left), ← c .before .is-offered .ensures, not-true (c .before .is-offered .result) (c .if2 .taken)))
+    -- returns-3
+    (λ c. rw (eq-eqb _ _ (c .before .before .before .if1 .left), ← c .before .before .is-offered .ensures, not-false (c .before .before .is-offered .result) (c .before .if2 .left), ne-eqb _ _ (c .if3 .taken)))
+    -- returns-4
+    (λ c. rw (eq-eqb _ _ (c .before .before .before .before .if1 .left), ← c .before .before .before .is-offered .ensures, not-false (c .before .before .before .is-offered .result) (c .before .before .if2 .left), eq-eqb _ _ (c .before .if3 .left), ne-eqb _ _ (c .if4 .taken)))
+    -- shared-slice-read-t11
+    (λ c. search needs)
+    -- shared-slice-read-t13
+    (λ c. search needs)
+    -- shared-slice-read-t15
+    (λ c. search needs)
+    -- shared-slice-read-t17
+    (λ c. search needs)
+    -- eight-at-requires
+    (λ c κs. search needs)
+    -- fresh-m-requires
+    (λ c κs. search needs)
+    -- put-chip-requires
+    (λ c κs. search needs)
+    -- same-length
+    (λ c. search needs)
+    -- returns-5
+    (λ c. rw (eq-eqb _ _ (c .before .before .before .before .before .before .before .before .before .before .before .before .before .before .if1 .left), ← c .before .before .before .before .before .before .before .before .before .before .before .before .before .is-offered .ensures, not-false (c .before .before .before .before .before .before .before .before .before .before .before .before .before .is-offered .result) (c .before .before .before .before .before .before .before .before .before .before .before .before .if2 .left), eq-eqb _ _ (c .before .before .before .before .before .before .before .before .before .before .before .if3 .left), eq-eqb _ _ (c .before .before .before .before .before .before .before .before .before .before .if4 .left), c .before .before .put-chip .ensures, c .before .before .before .before .fresh-m .ensures, c .before .before .before .before .before .eight-at .ensures, eight-whole (c .before .before .before .before .before .before .before .before .before .before .before .before .before .before .before .before .before .before .args .unique .now) (c .before .before .before .before .before .before .before .before .before .before .if4 .left))))

@@ -1,0 +1,77 @@
+-- The device's calls as C sees them: the chip as bytes, the answer as the papers' number, the counts in lent words.
+use Prim.Native.Nat.{ℕ}
+use mathlib.Core.Bool.{Bool, cond, _&&_}
+use mathlib.Core.List.{List, []}
+use lib.Dec.{eqb, leb}
+use lib.ListN.{length}
+use Rattle.parts.specs.declared.Part.{Part}
+use Rattle.parts.specs.declared.Part.the-variants.{M, P}
+use Rattle.parts.specs.Parts.{leastOf, mostOf}
+use Rattle.counts.specs.Counts.{noCounts}
+use Rattle.record.specs.declared.Answer.the-variants.{Done, Size, State}
+use Rattle.record.specs.declared.Device.{Device}
+use Rattle.record.specs.Answers.{answerNumber}
+use Rattle.record.specs.Fresh.{freshM, freshP}
+use Rattle.paper.specs.Storing.{Lent}
+use Rattle.paper.specs.Transaction.{World, refusal, transactOf, powerOf}
+use Rattle.bursts.specs.Lends.{lends}
+use Rattle.judging.specs.declared.Outcome.{Outcome}
+use Rattle.parting.specs.Parting.{worldOf}
+use Rattle.chips.specs.Chips.{chipSize, isChip, chipOf, bytesOf}
+use Rattle.chips.specs.Words.{hasCounts, countsOver}
+
+-- ---- fresh chips
+pub record Made : Type 0 where
+  pub answer : ℕ
+  pub chip : List ℕ
+
+abbrev pub madeAs : ℕ → List ℕ → Made
+madeAs v chip = record { answer = v; chip = chip }
+
+-- a part has memories of 2^n bytes
+unfoldable pub offered : Part → ℕ → Bool
+offered p n = leb (leastOf p) n && leb n (mostOf p)
+
+-- 3 for a buffer that is not a chip's length, 1 for anything asked for that no chip has; the buffer is then as it was
+abbrev pub made : Bool → Device → List ℕ → Made
+made fits d chip =
+    cond (eqb (length chip) chipSize) (cond fits (madeAs (answerNumber Done) (bytesOf d)) (madeAs (answerNumber Size) chip)) (madeAs (answerNumber State) chip)
+
+unfoldable pub freshMIn : ℕ → List ℕ → List ℕ → List ℕ → Made
+freshMIn n device unique chip = made (offered M n && (eqb (length device) 4 && eqb (length unique) 8)) (freshM n device unique) chip
+
+unfoldable pub freshPIn : ℕ → List ℕ → List ℕ → Made
+freshPIn n device chip = made (offered P n && eqb (length device) 8) (freshP n device) chip
+
+-- ---- transactions and power cycles: all that a call leaves
+pub record Call : Type 0 where
+  pub answer : ℕ
+  pub chip : List ℕ
+  pub lent : Lent
+  pub output : List ℕ
+  pub counts : List ℕ
+
+abbrev pub callAs : ℕ → List ℕ → List ℕ → List ℕ → List ℕ → List ℕ → Call
+callAs v chip memory area output counts = record { answer = v; chip = chip; lent = lends memory area; output = output; counts = counts }
+
+-- what the paper leaves, in bytes and words
+abbrev pub inBytes : World → List ℕ → Call
+inBytes w counts = record { answer = answerNumber (w .answer); chip = bytesOf (w .device); lent = w .lent; output = w .output; counts = countsOver (w .counts) counts }
+
+-- 3 for bytes that are no chip's: nothing changes but the counts, which are 0
+abbrev pub across : List ℕ → Lent → List ℕ → List ℕ → World → Call
+across chip l out counts w =
+    cond (isChip chip) (inBytes w counts) (record { answer = answerNumber State; chip = chip; lent = l; output = out; counts = countsOver noCounts counts })
+
+-- 1 also where there are not five words for the counts
+unfoldable pub transactIn : List ℕ → Lent → List ℕ → List ℕ → List ℕ → Call
+transactIn chip l xs out counts =
+    let d = chipOf chip in
+    across chip l out counts (cond (hasCounts counts) (transactOf d l xs out) (refusal Size d l out))
+
+unfoldable pub powerIn : List ℕ → Lent → Call
+powerIn chip l = across chip l [] [] (powerOf (chipOf chip) l)
+
+-- what the code's outcome tells, with nothing lent
+abbrev pub outcomeTold : Outcome → List ℕ → Call
+outcomeTold o counts = inBytes (worldOf o [] [] []) counts

@@ -1,0 +1,5 @@
+pub mod Calls
+pub mod Fills
+pub mod Laws
+pub mod Refused
+pub mod Unique
