@@ -25,7 +25,14 @@ fn start(to: usize) -> State {
     }
 }
 
-// A record played, and the bytes as they were before it, to be compared with those after it.
+// The first bytes as they are now.
+fn keep(old: &mut [u8], now: &[u8], size: usize) {
+    if size <= now.len() {
+        put_all(old, 0, &now[..size]);
+    }
+}
+
+// A record played, and the chip's bytes as they were before it, to be compared with those after it.
 fn advance(
     s: Session,
     tape: &[u8],
@@ -35,8 +42,8 @@ fn advance(
     memory0: &mut [u8],
     area0: &mut [u8],
 ) -> Turn {
-    put_all(memory0, 0, memory);
-    put_all(area0, 0, area);
+    keep(memory0, memory, s.memory);
+    keep(area0, area, s.area);
     session::advance(s, tape, memory, area, output)
 }
 

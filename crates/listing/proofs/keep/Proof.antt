@@ -1,0 +1,22 @@
+-- `listing::keep` is safe: the part lies within what is lent.
+-- Assumes nothing.
+use mathlib.Core.Path.{sym}
+use borrow.Author.Needs.{needs}
+use lib.Seq.{length-take-le}
+use Rattle.listing.proofs.keep.Statement.{statement}
+use Rattle.listing.proofs.keep.Tie as tie
+
+pub keep-spec : {M : Type 1} → statement M
+keep-spec =
+    tie.close
+    (tie.spec
+    -- slice-aggregate-put-all
+    (λ c. sym (length-take-le _ _ (c .before .before .if1 .taken)))
+    -- put-all-requires
+    (λ c κs. search needs)
+    -- same-length
+    (λ c. search needs)
+    -- returns
+    (λ c. search needs)
+    -- returns-2
+    (λ c. search needs))
