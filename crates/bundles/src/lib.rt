@@ -1,4 +1,5 @@
-// Many tapes in one input, each behind its length in four bytes.
+// Input of the programs that are held against the second one. Many tapes in one input stand each behind its length in four
+// bytes.
 
 // Where a tape of the input ends: its number of bytes, or that the input ends before it.
 pub struct Taken {
@@ -13,13 +14,15 @@ fn took(whole: bool, last: bool, long: usize) -> Taken {
 }
 
 // Four bytes, the lowest first.
-fn length_of(four: &[u8]) -> usize {
-    if four.len() < 4 {
-        return 0;
-    }
-    let low = four[0] as usize + 256 * (four[1] as usize);
-    let high = four[2] as usize + 256 * (four[3] as usize);
+pub fn number_of(a: u8, b: u8, c: u8, d: u8) -> u32 {
+    let low = a as u32 + 256 * (b as u32);
+    let high = c as u32 + 256 * (d as u32);
     low + 65536 * high
+}
+
+// Fills a buffer from standard input, and tells whether there was so much.
+pub fn is_taken(buffer: &mut [u8]) -> bool {
+    io::read_full(0, buffer) == buffer.len()
 }
 
 // Passes over a byte of the input, and tells whether it was there.
@@ -50,7 +53,7 @@ pub fn take_tape(tape: &mut [u8]) -> Taken {
     if n < 4 {
         return took(false, true, 0);
     }
-    let long = length_of(&four);
+    let long = number_of(four[0], four[1], four[2], four[3]) as usize;
     if tape.len() < long {
         return took(skipped(long), false, long);
     }

@@ -1,5 +1,6 @@
 // Columns of the lines that are held against the second program: numbers, and digests of what is too long to print.
 use text::put;
+use text::put_all;
 use text::put_decimal;
 use text::put_hex;
 
@@ -32,5 +33,28 @@ pub fn fill(out: &mut [u8]) {
     while i < out.len() {
         out[i] = 0xA5;
         i += 1;
+    }
+}
+
+// The place on the page, and whether to go on.
+pub struct State {
+    pub place: usize,
+    pub go: bool,
+}
+
+pub fn stopped(place: usize) -> State {
+    State { place, go: false }
+}
+
+// The input ends too early.
+pub fn cut(text: &mut [u8], at: usize) -> State {
+    stopped(put_all(text, at, b"cut\n"))
+}
+
+// A line is done.
+pub fn going(text: &[u8], place: usize) -> State {
+    State {
+        place: text::flush_full(text, place),
+        go: true,
     }
 }

@@ -1,11 +1,28 @@
 // What a record left, in few characters: the chip, digests, and the driven samples.
 use columns::column;
 use columns::digest_column;
+use judging::Outcome;
+use lines::five;
 use record::Device;
+use record::answer_number;
 use text::put;
 use text::put_all;
 use text::put_bytes;
+use text::put_decimal;
 use text::put_hex;
+
+pub fn answer_of(r: Outcome) -> u8 {
+    let answer = r.answer;
+    answer_number(answer)
+}
+
+// The number of a call, its answer and its five counts.
+pub fn call_columns(text: &mut [u8], at: usize, k: u64, r: Outcome) -> usize {
+    let counts = r.counts;
+    let a = put_decimal(text, at, k);
+    let b = column(text, a, answer_of(r) as u64);
+    five(text, b, counts)
+}
 
 // A bit as a digit.
 fn flag(text: &mut [u8], at: usize, on: bool) -> usize {
@@ -43,12 +60,19 @@ fn registers(text: &mut [u8], at: usize, d: Device) -> usize {
     pair(text, h, r.mr0)
 }
 
-// The serial number, byte 0 first.
-fn serial(text: &mut [u8], at: usize, d: Device) -> usize {
-    let i = d.identity;
-    let number = i.serial;
+// Eight bytes, byte 0 first.
+pub fn eight_column(text: &mut [u8], at: usize, bytes: [u8; 8]) -> usize {
     let a = put(text, at, b' ');
-    put_bytes(text, a, &number)
+    put_bytes(text, a, &bytes)
+}
+
+// The chip's n and mode, its flags and registers.
+pub fn state_columns(text: &mut [u8], at: usize, d: Device) -> usize {
+    let v = d.volatile;
+    let a = column(text, at, d.n as u64);
+    let b = column(text, a, v.mode as u64);
+    let c = flags(text, b, d);
+    registers(text, c, d)
 }
 
 // The letter of the part.
@@ -60,15 +84,13 @@ fn part(text: &mut [u8], at: usize, d: Device) -> usize {
     put(text, a, b'P')
 }
 
-// The chip: its part, n and mode, its flags and registers, its serial number.
+// The chip: its part, its state, its serial number.
 pub fn chip(text: &mut [u8], at: usize, d: Device) -> usize {
-    let v = d.volatile;
+    let i = d.identity;
+    let serial = i.serial;
     let a = part(text, at, d);
-    let b = column(text, a, d.n as u64);
-    let c = column(text, b, v.mode as u64);
-    let e = flags(text, c, d);
-    let f = registers(text, e, d);
-    serial(text, f, d)
+    let b = state_columns(text, a, d);
+    eight_column(text, b, serial)
 }
 
 // The place of the first byte that is not 0, or the end.

@@ -4,17 +4,17 @@ use bundles::take_tape;
 use columns::column;
 use columns::digest_column;
 use columns::fill;
+use compact::answer_of;
+use compact::call_columns;
 use compact::chip;
 use compact::output_columns;
 use judging::Outcome;
-use lines::five;
 use lines::last_line;
 use lines::verdict;
 use session::Session;
 use tape::Entry;
 use text::put;
 use text::put_all;
-use text::put_decimal;
 
 struct State {
     session: Session,
@@ -32,18 +32,10 @@ fn output_of(text: &mut [u8], at: usize, e: Entry, answer: u8, long: usize, out:
     }
 }
 
-fn answer_of(r: Outcome) -> u8 {
-    let answer = r.answer;
-    record::answer_number(answer)
-}
-
 fn line(text: &mut [u8], at: usize, k: u64, r: Outcome) -> usize {
-    let counts = r.counts;
     let d = r.device;
-    let a = put_decimal(text, at, k);
-    let b = column(text, a, answer_of(r) as u64);
-    let c = five(text, b, counts);
-    chip(text, c, d)
+    let a = call_columns(text, at, k, r);
+    chip(text, a, d)
 }
 
 // Digests of the chip's part of memory and area.

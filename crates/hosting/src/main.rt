@@ -2,13 +2,18 @@
 // it tells, and a digest of the whole buffer that was lent. The second program prints the same.
 ghost use mathlib.Core.Path.{_≡_};
 ghost use lib.ListN.{length};
+use bundles::is_taken;
+use bundles::number_of;
+use columns::State;
 use columns::column;
+use columns::cut;
 use columns::digest_column;
 use columns::fill;
+use columns::going;
+use columns::stopped;
 use orders::Order;
 use record::answer_number;
 use text::put;
-use text::put_all;
 use text::put_decimal;
 use units::Bytes;
 
@@ -47,13 +52,6 @@ fn take_head() -> Head {
         whole: n == 24,
         bytes,
     }
-}
-
-// Four bytes, the lowest first.
-fn number_of(a: u8, b: u8, c: u8, d: u8) -> u32 {
-    let low = a as u32 + 256 * (b as u32);
-    let high = c as u32 + 256 * (d as u32);
-    low + 65536 * high
 }
 
 fn request_of(h: [u8; 24]) -> Request {
@@ -121,25 +119,6 @@ fn put_line(
     put(text, d, b'\n')
 }
 
-// The place on the page, and whether to go on.
-struct State {
-    place: usize,
-    go: bool,
-}
-
-fn stopped(place: usize) -> State {
-    State { place, go: false }
-}
-
-fn cut(text: &mut [u8], at: usize) -> State {
-    stopped(put_all(text, at, b"cut\n"))
-}
-
-// The data of a request, and whether all of it came.
-fn take_input(input: &mut [u8]) -> bool {
-    io::read_full(0, input) == input.len()
-}
-
 // Request `k` with its data, on a buffer of its room.
 fn run(
     s: State,
@@ -149,14 +128,11 @@ fn run(
     buffer: &mut [u8],
     text: &mut [u8],
 ) -> State {
-    if !take_input(input) {
+    if !is_taken(input) {
         return cut(text, s.place);
     }
     let place = put_line(text, s.place, k, r, input, buffer);
-    State {
-        place: text::flush_full(text, place),
-        go: true,
-    }
+    going(text, place)
 }
 
 // The same with so much of both as the request says, where there is so much.

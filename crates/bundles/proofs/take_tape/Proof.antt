@@ -22,10 +22,18 @@ take-tape-spec =
     (λ c κs. search needs)
     -- returns-2
     (λ c. search needs)
-    -- slice-aggregate-length-of
+    -- array-read-number-of
     (λ c. search needs)
-    -- length-of-requires
+    -- array-read-number-of-2
+    (λ c. search needs)
+    -- array-read-number-of-3
+    (λ c. search needs)
+    -- array-read-number-of-4
+    (λ c. search needs)
+    -- number-of-requires
     (λ c κs. search needs)
+    -- cast-long
+    (λ c. search needs)
     -- skipped-requires
     (λ c κs. search needs)
     -- took-requires-3

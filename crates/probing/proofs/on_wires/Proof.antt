@@ -1,0 +1,46 @@
+-- `probing::on_wires` is safe: both parts lie within what is lent.
+-- Assumes nothing.
+use mathlib.Core.Path.{sym}
+use lib.Seq.{length-take-le}
+use borrow.Author.Needs.{needs}
+use Rattle.probing.proofs.on_wires.Statement.{statement}
+use Rattle.probing.proofs.on_wires.Tie as tie
+
+pub on-wires-spec : {M : Type 1} → statement M
+on-wires-spec =
+    tie.close
+    (tie.spec
+    -- cut-requires
+    (λ c κs. search needs)
+    -- same-length
+    (λ c. search needs)
+    -- returns
+    (λ c. search needs)
+    -- cut-requires-2
+    (λ c κs. search needs)
+    -- same-length-2
+    (λ c. search needs)
+    -- returns-2
+    (λ c. search needs)
+    -- slice-relend-prefix-run
+    (λ c. search needs)
+    -- slice-aggregate-run
+    (λ c. sym (length-take-le _ _ (c .before .before .before .before .if1 .left)))
+    -- slice-relend-prefix-run-2
+    (λ c. search needs)
+    -- slice-aggregate-run-2
+    (λ c. sym (length-take-le _ _ (c .before .before .before .before .if2 .left)))
+    -- run-requires
+    (λ c κs. search needs)
+    -- same-length-3
+    (λ c. search needs)
+    -- same-length-4
+    (λ c. search needs)
+    -- same-length-5
+    (λ c. search needs)
+    -- same-length-6
+    (λ c. search needs)
+    -- same-length-7
+    (λ c. search needs)
+    -- returns-3
+    (λ c. search needs))
