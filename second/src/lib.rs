@@ -14,6 +14,7 @@ pub mod device;
 pub mod faults;
 pub mod generate;
 pub mod host;
+pub mod pace;
 pub mod probe;
 pub mod request;
 pub mod rng;

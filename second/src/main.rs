@@ -3,6 +3,7 @@
 use std::io::{self, BufWriter, Read, Write};
 use std::process::ExitCode;
 
+use second::pace::{Run, What};
 use second::{ask, compact, coverage, generate, probe, request, spoil, tape};
 
 const USAGE: &str = "usage:
@@ -16,7 +17,9 @@ const USAGE: &str = "usage:
   second host [FILE]
   second coverage SEED TAPES RECORDS
   second probe-coverage SEED COUNT
-  second host-coverage SEED COUNT";
+  second host-coverage SEED COUNT
+  second pace read|write WIRES CLOCKS REPEATS N
+  second pace gather WIRES CLOCKS REPEATS";
 
 /// The named file, or standard input where none is named.
 fn input(files: &[&str]) -> Result<Vec<u8>, String> {
@@ -37,6 +40,22 @@ fn input(files: &[&str]) -> Result<Vec<u8>, String> {
 fn number<T: std::str::FromStr>(word: &str) -> Result<T, String> {
     word.parse()
         .map_err(|_| format!("not a number in range: {word}"))
+}
+
+/// The line of one run of `pace`. A gathering has no memory.
+fn pace(what: What, wires: &str, clocks: &str, repeats: &str, n: &str) -> Result<String, String> {
+    let run = Run {
+        what,
+        wires: number(wires)?,
+        clocks: number(clocks)?,
+        repeats: number(repeats)?,
+        n: number(n)?,
+    };
+    if run.is_whole() {
+        Ok(run.line())
+    } else {
+        Err(String::from(USAGE))
+    }
 }
 
 fn run(words: &[&str], out: &mut dyn Write) -> Result<(), String> {
@@ -82,6 +101,15 @@ fn run(words: &[&str], out: &mut dyn Write) -> Result<(), String> {
         ["host-coverage", seed, count] => {
             let (text, _) = coverage::of_requests(number(seed)?, number(count)?);
             out.write_all(text.as_bytes())
+        }
+        ["pace", "read", wires, clocks, repeats, n] => {
+            out.write_all(pace(What::Read, wires, clocks, repeats, n)?.as_bytes())
+        }
+        ["pace", "write", wires, clocks, repeats, n] => {
+            out.write_all(pace(What::Write, wires, clocks, repeats, n)?.as_bytes())
+        }
+        ["pace", "gather", wires, clocks, repeats] => {
+            out.write_all(pace(What::Gather, wires, clocks, repeats, "0")?.as_bytes())
         }
         _ => return Err(String::from(USAGE)),
     };

@@ -68,6 +68,27 @@ fn coverage_reports() {
 }
 
 #[test]
+fn pace_counts_the_clocks_of_all_calls() {
+    for (words, clocks) in [
+        ("pace read 1 65535 2 10", "131070"),
+        ("pace read 2 1000 3 10", "3000"),
+        ("pace read 4 1000 3 21", "3000"),
+        ("pace write 1 64 1 10", "64"),
+        ("pace write 2 1000 3 15", "3000"),
+        ("pace write 4 65535 1 10", "65535"),
+        ("pace gather 1 1000 3", "3000"),
+        ("pace gather 4 1000 0", "0"),
+    ] {
+        let out = second(&words.split(' ').collect::<Vec<_>>(), &[]);
+        assert!(out.status.success());
+        let text = String::from_utf8_lossy(&out.stdout).into_owned();
+        let line: Vec<&str> = text.trim_end().split(' ').collect();
+        assert_eq!(line[..2], [clocks, "clocks"], "{words}");
+        assert_eq!(line.len(), 4);
+    }
+}
+
+#[test]
 fn errors() {
     for words in [
         &[][..],
@@ -84,6 +105,10 @@ fn errors() {
         &["host", "no-such-file-here"],
         &["host-coverage", "1"],
         &["coverage", "1", "2"],
+        &["pace", "read", "4", "1000", "2"],
+        &["pace", "read", "3", "1000", "2", "10"],
+        &["pace", "write", "1", "63", "2", "10"],
+        &["pace", "gather", "1", "65536", "2"],
     ] {
         let out = second(words, &[]);
         assert_eq!(out.status.code(), Some(1), "{words:?}");
