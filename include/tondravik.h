@@ -30,8 +30,10 @@
 extern "C" {
 #endif
 
-/* The answers. 1 to 3 refuse a call: nothing that was lent has changed, but that the five counts are 0. 4 to 12 decline
- * a transaction: no memory has changed. */
+/* The answers. Of the device, 1 to 3 refuse a call: nothing that was lent has changed, but that the five counts, where
+ * there are five words for them, are 0. 4 to 12 decline a transaction: memory and area are as they were, the output has
+ * one 00h for each clock, and the chip is no longer armed (with 9 its latch also moves as its write mode says). Of the
+ * host half, every answer but 0 refuses: the buffer is as it was, and the number, where there is one word for it, is 0. */
 enum {
     TONDRAVIK_DONE = 0,
     TONDRAVIK_SIZE = 1,

@@ -1,4 +1,5 @@
 pub mod Truth
+pub mod Unique
 pub mod Rows
 pub mod Tables
 pub mod Examples

@@ -5,24 +5,26 @@ use mathlib.Core.Path.{_≡_, refl, ap, _∙_}
 use Prim.Native.Nat.{ℕ}
 use native.Mathlib.Omega.{arith}
 use mathlib.Core.Bool.{Bool, true, cond}
-use mathlib.Core.List.{List, [], _++_}
+use mathlib.Core.List.{List, []}
 use lib.ListN.{length, length-take, drop-of-length-le}
 use lib.Seq.{drop-nil}
 use borrow.Author.Tests.{ltb-true, lt-leb}
 use Rattle.units.specs.declared.Clocks.{Clocks}
 use Rattle.units.specs.declared.Wires.{Wires}
+use Rattle.units.specs.Units.{fewer}
 use Rattle.opcodes.specs.declared.Kind.the-variants.{Unknown}
 use Rattle.commands.specs.declared.plans.Body.{Body}
 use Rattle.record.specs.declared.Device.{Device}
 use Rattle.record.specs.declared.Setting.{Setting}
 use Rattle.record.specs.Devices.{settingOf}
 use Rattle.record.specs.Changes.{settledOf}
+use Rattle.record.specs.Answers.{isDone}
 use Rattle.paper.specs.InForce.{commandClocks, wiresFor, addressClocks, waitClocks, bodyFor}
 use Rattle.paper.specs.Reading.{first, after, many, kindRead, dataPart, Parts, partsOf, dataBytes}
 use Rattle.paper.specs.Storing.{Lent, Taken, nothingTaken}
 use Rattle.paper.specs.Driving.{drivenAt, along}
-use Rattle.paper.specs.Answers.{Facts, fewer, judge}
-use Rattle.paper.specs.Transaction.{World, factsOf, isDone, undriven, outputOf, over, clockedOf}
+use Rattle.paper.specs.Answers.{Facts, judge}
+use Rattle.paper.specs.Transaction.{World, factsOf, undriven, around, outputOf, over, clockedOf}
 use Rattle.clocking.specs.Machine.{beginOf, heldBack, holds, byteIn, ran, runOf, outsOf}
 use Rattle.judging.specs.Finish.{outcomeOf, finishOf}
 use Rattle.bridge.specs.Stage.{Seen, seen}
@@ -34,10 +36,6 @@ use Rattle.bridge.specs.Silence.{held-all, at-end}
 abbrev drivenBy : Device → Lent → Parts → List ℕ
 drivenBy d l p = along (drivenAt (bodyFor (settingOf d) (p .kind) (p .address)) d (p .kind) (p .address) l) 0 (p .dataPart)
 
--- the data clocks' output among that of all clocks
-abbrev among : Parts → List ℕ → List ℕ
-among p o = undriven (p .commandPart) ++ (undriven (p .addressPart) ++ (undriven (p .waitPart) ++ (o ++ undriven (p .restPart))))
-
 -- the paper's facts, memory and area held back where the latch is missing
 abbrev heldFacts : Device → Lent → Facts → Facts
 heldFacts d l f =
@@ -46,7 +44,7 @@ heldFacts d l f =
 -- the machine has read what the paper reads
 reading : (d : Device) (l : Lent) (xs : List ℕ)
     → seen d (ran beginOf (nothingTaken l)) xs
-    ≡ record { facts = heldFacts d l (factsOf d l (partsOf (settingOf d) xs)); out = among (partsOf (settingOf d) xs) (drivenBy d l (partsOf (settingOf d) xs)) }
+    ≡ record { facts = heldFacts d l (factsOf d l (partsOf (settingOf d) xs)); out = around (partsOf (settingOf d) xs) (drivenBy d l (partsOf (settingOf d) xs)) }
 unfolding commandOn addressOn waitOn dataOn partsOf factsOf
 reading d l xs =
     let s = settingOf d in
@@ -55,7 +53,7 @@ reading d l xs =
     let a = p .address in
     let w = wiresFor s k in
     command-law d l xs
-    ∙ ap (λ (t : Taken). record { facts = record { kind = k; address = a; counts = factsOf d l p .counts; taken = t }; out = among p (drivenBy d l p) })
+    ∙ ap (λ (t : Taken). record { facts = record { kind = k; address = a; counts = factsOf d l p .counts; taken = t }; out = around p (drivenBy d l p) })
     (whole-bytes w (byteIn s (d .volatile .latch) k a) (p .dataPart) (nothingTaken l)
     ∙ held-all s k a (holds s (d .volatile .latch) k) (bodyFor s k a) (dataBytes w (p .dataPart)) (nothingTaken l))
 
@@ -99,5 +97,5 @@ bridge d l xs out =
     let f = factsOf d l p in
     let e = ends d l xs in
     ap (λ (s : Seen). world d (s .facts) (s .facts .taken .lent) (s .out) out) (reading d l xs)
-    ∙ ap (λ (m : Lent). world d f m (among p (drivenBy d l p)) out) (e .0)
-    ∙ ap (λ (o : List ℕ). world d f (cond (done d l xs) (f .taken .lent) l) (among p o) out) (e .1)
+    ∙ ap (λ (m : Lent). world d f m (around p (drivenBy d l p)) out) (e .0)
+    ∙ ap (λ (o : List ℕ). world d f (cond (done d l xs) (f .taken .lent) l) (around p o) out) (e .1)

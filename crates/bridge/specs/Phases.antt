@@ -13,7 +13,7 @@ use borrow.Author.Tests.{lt-leb}
 use Rattle.basis.specs.Truth.{cond-same}
 use Rattle.units.specs.declared.Clocks.{Clocks}
 use Rattle.units.specs.declared.Wires.{Wires}
-use Rattle.units.specs.Units.{clocks, bytes, perByte, clocksOf}
+use Rattle.units.specs.Units.{clocks, bytes, perByte, atMost, byteClocks}
 use Rattle.units.specs.Laws.{perByte-pos}
 use Rattle.wires.specs.Bits.{shiftOf, gatherFrom, gather}
 use Rattle.wires.specs.Laws.{gather-byte}
@@ -35,7 +35,7 @@ use Rattle.paper.specs.Transaction.{undriven}
 use Rattle.clocking.specs.declared.Phase.{Phase}
 use Rattle.clocking.specs.declared.Phase.the-variants.{Command, Address, Wait, Data, Rest}
 use Rattle.clocking.specs.declared.Progress.{Progress}
-use Rattle.clocking.specs.Machine.{at, beginOf, fullAt, reached, toData, toWait, toAddress, commandStep, addressStep, waitStep, heldBack, holds, byteIn, Held, lastAt, held, Run, ran, dataStep, stepOf, driveOf, runOf, outsOf}
+use Rattle.clocking.specs.Machine.{at, beginOf, fullAt, toData, toWait, toAddress, commandStep, addressStep, waitStep, heldBack, holds, byteIn, Held, lastAt, held, Run, ran, dataStep, stepOf, driveOf, runOf, outsOf}
 use Rattle.theorems.specs.Driven.{along-zero}
 use Rattle.bridge.specs.Stage.{Seen, seen, behind, carried, stage, cut-first, cut-body}
 
@@ -192,9 +192,9 @@ wait-law d k a c₁ c₂ t xs =
     let n = waitClocks s k a in
     let past : Clocks → Progress = λ c. toData s k a (counted c₁ c₂ c none none) (t .value) (t .any) in
     let go : Clocks → Progress = λ c. at Wait k a 0 (counted c₁ c₂ c none none) (t .value) (t .any) in
-    ap (λ (r : Run). seen d r xs) (chosen (reached n none) (past none) (go none) t)
-    ∙ stage d {S = Unit {0}} (reached n) (λ c u. ran (past c) t) (λ c u. ran (go c) t) (λ c u x. u) (λ c. 0) (λ u. Unit {0})
-    (λ m u x. chosen (reached n (clocks (m + 1))) (past (clocks (m + 1))) (go (clocks (m + 1))) t)
+    ap (λ (r : Run). seen d r xs) (chosen (atMost n none) (past none) (go none) t)
+    ∙ stage d {S = Unit {0}} (atMost n) (λ c u. ran (past c) t) (λ c u. ran (go c) t) (λ c u x. u) (λ c. 0) (λ u. Unit {0})
+    (λ m u x. chosen (atMost n (clocks (m + 1))) (past (clocks (m + 1))) (go (clocks (m + 1))) t)
     (λ m u ok. refl)
     (λ m u x ok. ok)
     (λ c u ys. dataOn d k a c₁ c₂ c t ys)
@@ -218,26 +218,26 @@ address-law d k c₁ t xs =
     let w = wiresFor s k in
     let past : Clocks → ℕ → Progress = λ c v. toWait s k v (counted c₁ c none none none) (t .value) (t .any) in
     let go : Clocks → ℕ → Progress = λ c v. at Address k 0 v (counted c₁ c none none none) (t .value) (t .any) in
-    ap (λ (r : Run). seen d r xs) (chosen (reached n none) (past none 0) (go none 0) t)
-    ∙ stage d {S = ℕ} (reached n) (λ c v. ran (past c v) t) (λ c v. ran (go c v) t) (λ c v x. shiftOf w v x) (λ c. 0) (λ v. Unit {0})
-    (λ m v x. chosen (reached n (clocks (m + 1))) (past (clocks (m + 1)) (shiftOf w v x)) (go (clocks (m + 1)) (shiftOf w v x)) t)
+    ap (λ (r : Run). seen d r xs) (chosen (atMost n none) (past none 0) (go none 0) t)
+    ∙ stage d {S = ℕ} (atMost n) (λ c v. ran (past c v) t) (λ c v. ran (go c v) t) (λ c v x. shiftOf w v x) (λ c. 0) (λ v. Unit {0})
+    (λ m v x. chosen (atMost n (clocks (m + 1))) (past (clocks (m + 1)) (shiftOf w v x)) (go (clocks (m + 1)) (shiftOf w v x)) t)
     (λ m v ok. refl)
     (λ m v x ok. ok)
-    (λ c v ys. waitOn d k (cond (reached n c) v 0) c₁ c t ys)
+    (λ c v ys. waitOn d k (cond (atMost n c) v 0) c₁ c t ys)
     (λ c v ys e. rw e (wait-law d k v c₁ c t ys))
     (λ c v e. rw e (sym (wait-on-nil d k t 0 c₁ c)))
     (cut-first n xs) 0 tt
     ∙ rw (along-zero (first n xs) 0, carried-gather w (first n xs) 0 0)
 
 -- a command has a clock
-some-command : (s : Setting) → reached (commandClocks s) none ≡ false
+some-command : (s : Setting) → atMost (commandClocks s) none ≡ false
 unfolding commandClocks
-some-command s = lt-leb (clocksOf (s .wires) (bytes 1) .0) 0 (omega (arith, perByte-pos (s .wires)))
+some-command s = lt-leb (byteClocks (s .wires) .0) 0 (omega (arith, perByte-pos (s .wires)))
 
 command-fits : (s : Setting) (xs : List ℕ) → gather (s .wires) (first (commandClocks s) xs) % 256 ≡ gather (s .wires) (first (commandClocks s) xs)
 unfolding commandClocks
 command-fits s xs =
-    gather-byte (s .wires) (first (clocksOf (s .wires) (bytes 1)) xs) (omega (arith, length-take (clocksOf (s .wires) (bytes 1) .0) xs))
+    gather-byte (s .wires) (first (byteClocks (s .wires)) xs) (omega (arith, length-take (byteClocks (s .wires) .0) xs))
 
 -- FROM THE FIRST CLOCK ON
 pub command-law : (d : Device) (l : Lent) (xs : List ℕ) → seen d (ran beginOf (nothingTaken l)) xs ≡ commandOn d (nothingTaken l) xs
@@ -249,13 +249,13 @@ command-law d l xs =
     let t = nothingTaken l in
     let past : Clocks → ℕ → Progress = λ c v. toAddress s (kindOf (s .part) w (v % 256)) (counted c none none none none) (t .value) (t .any) in
     let go : Clocks → ℕ → Progress = λ c v. at Command Unknown 0 v (counted c none none none none) (t .value) (t .any) in
-    let enter : cond (reached n none) (ran (past none 0) t) (ran (go none 0) t) ≡ ran beginOf t = rw (some-command s) in
+    let enter : cond (atMost n none) (ran (past none 0) t) (ran (go none 0) t) ≡ ran beginOf t = rw (some-command s) in
     ap (λ (r : Run). seen d r xs) (sym enter)
-    ∙ stage d {S = ℕ} (reached n) (λ c v. ran (past c v) t) (λ c v. ran (go c v) t) (λ c v x. shiftOf w v x) (λ c. 0) (λ v. Unit {0})
-    (λ m v x. chosen (reached n (clocks (m + 1))) (past (clocks (m + 1)) (shiftOf w v x)) (go (clocks (m + 1)) (shiftOf w v x)) t)
+    ∙ stage d {S = ℕ} (atMost n) (λ c v. ran (past c v) t) (λ c v. ran (go c v) t) (λ c v x. shiftOf w v x) (λ c. 0) (λ v. Unit {0})
+    (λ m v x. chosen (atMost n (clocks (m + 1))) (past (clocks (m + 1)) (shiftOf w v x)) (go (clocks (m + 1)) (shiftOf w v x)) t)
     (λ m v ok. refl)
     (λ m v x ok. ok)
-    (λ c v ys. addressOn d (cond (reached n c) (kindOf (s .part) w (v % 256)) Unknown) c t ys)
+    (λ c v ys. addressOn d (cond (atMost n c) (kindOf (s .part) w (v % 256)) Unknown) c t ys)
     (λ c v ys e. rw e (address-law d (kindOf (s .part) w (v % 256)) c t ys))
     (λ c v e. rw e (sym (address-on-nil d Unknown t c)))
     (cut-first n xs) 0 tt

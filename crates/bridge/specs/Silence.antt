@@ -9,13 +9,12 @@ use mathlib.Core.Bool.{Bool, true, false, cond, _||_}
 use mathlib.Core.List.{List, [], _∷_}
 use lib.ListN.{length}
 use borrow.Author.Tests.{ltb-true, not-true}
-use Rattle.basis.specs.Truth.{untrue, cond-same}
+use Rattle.basis.specs.Truth.{untrue, cond-same, or-left, or-right}
 use Rattle.units.specs.declared.Bytes.{Bytes}
 use Rattle.units.specs.declared.Wires.{Wires}
-use Rattle.units.specs.Units.{perByte}
+use Rattle.units.specs.Units.{perByte, fewer}
 use Rattle.units.specs.Laws.{perByte-pos}
 use Rattle.parts.specs.declared.Part.{Part}
-use Rattle.parts.specs.declared.Part.the-variants.{M, P}
 use Rattle.opcodes.specs.declared.Kind.{Kind}
 use Rattle.opcodes.specs.declared.Kind.the-variants.{Unknown, Plain, ReadRegister, ReadAny, ReadMode, ReadIdentity, WriteRegister, WriteMode, ReadMemory, WriteMemory, ReadArea, WriteArea}
 use Rattle.commands.specs.declared.registers.Mapped.{Mapped}
@@ -27,16 +26,18 @@ use Rattle.commands.specs.Plans.{bodyOf, mappedBody}
 use Rattle.record.specs.declared.Device.{Device}
 use Rattle.record.specs.declared.Setting.{Setting}
 use Rattle.record.specs.Devices.{settingOf}
-use Rattle.record.specs.Latches.{kindNeeds, latchMissing}
+use Rattle.record.specs.Latches.{kindNeeds}
+use Rattle.record.specs.Answers.{isDone}
 use Rattle.paper.specs.InForce.{unknown, asleepFor, refusedAt, stopped, decided, commandClocks, addressClocks, bodyFor, wiresFor}
 use Rattle.paper.specs.Reading.{Parts, many, bytesIn, dataBytes}
 use Rattle.paper.specs.Storing.{Lent, Taken, nothingTaken, protectedAt, putAt, stored, takeByte, takeAll}
 use Rattle.paper.specs.Driving.{drivenAt, along}
-use Rattle.paper.specs.Answers.{fewer, shortData, longRest, resetting, unarmed, reservedFor, shutData, rows, judge}
-use Rattle.paper.specs.Transaction.{factsOf, isDone, undriven}
+use Rattle.paper.specs.Answers.{shortData, longRest, resetting, unarmed, reservedFor, shutData, rows, judge}
+use Rattle.paper.specs.Transaction.{factsOf, undriven}
 use Rattle.clocking.specs.Machine.{heldBack, holds}
 use Rattle.theorems.specs.Driven.{along-zero}
 use Rattle.theorems.specs.ExactOrder.{by-rows, clear-rows}
+use Rattle.theorems.specs.Planned.{no-latch}
 
 -- ---- bytes held back: only memory and area differ, and they are as they were
 abbrev with : Lent → Taken → Taken
@@ -138,19 +139,7 @@ quiet-for s k a v = by (decided s k a)
     by true = tt
     by false = quiet (s .part) (s .registers .cr4) v a k
 
-needless : (p : Part) (cr4 : ℕ) (latch : Bool) (k : Kind) → kindNeeds cr4 k ≡ false → latchMissing p cr4 latch k ≡ false
-unfolding latchMissing
-needless M cr4 latch k e = rw e
-needless P cr4 latch k e = refl
-
 -- ---- once 6, 5 or 7 is decided there is no data
-or-right : (a b : Bool) → b ≡ true → (a || b) ≡ true
-or-right true b e = refl
-or-right false b e = e
-
-or-left : (a b : Bool) → a ≡ true → (a || b) ≡ true
-or-left a b e = rw e
-
 module _ (s : Setting) (k : Kind) (a : ℕ) where
   no-data : decided s k a ≡ true → bodyFor s k a ≡ Nothing
   unfolding bodyFor
@@ -277,7 +266,7 @@ module _ (d : Device) (l : Lent) (p : Parts)
       (never b is (shortData body w (many (p .dataPart))) (ap (λ (c : Body). shortData c w (many (p .dataPart))) is ∙ short))
       long
       (unarmed-not (q .0 .0))
-      (never b is hold (needless (s .part) (s .registers .cr4) (d .volatile .latch) (p .kind) (q .1)))
+      (never b is hold (no-latch (s .part) (s .registers .cr4) (d .volatile .latch) (p .kind) (q .1)))
       (q .0 .1)
       (never b is (shutData body (takenBy body .any)) (ap (λ (c : Body). shutData c (takenBy body .any)) is ∙ shut))
 

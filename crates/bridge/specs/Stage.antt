@@ -12,7 +12,7 @@ use Rattle.basis.specs.Truth.{untrue}
 use Rattle.units.specs.declared.Clocks.{Clocks}
 use Rattle.units.specs.declared.Bytes.{Bytes}
 use Rattle.units.specs.declared.Wires.{Wires}
-use Rattle.units.specs.Units.{clocks, perByte, clocksOf}
+use Rattle.units.specs.Units.{clocks, perByte, clocksOf, atMost}
 use Rattle.units.specs.Laws.{whole-lt, lt-whole}
 use Rattle.commands.specs.declared.plans.Body.{Body}
 use Rattle.commands.specs.declared.plans.Body.the-variants.{Nothing, FixedRead, AnyRead, FixedWrite, AnyWrite}
@@ -21,7 +21,7 @@ use Rattle.record.specs.Devices.{settingOf}
 use Rattle.paper.specs.Reading.{many, first, after, dataPart, restPart}
 use Rattle.paper.specs.Driving.{along}
 use Rattle.paper.specs.Answers.{Facts}
-use Rattle.clocking.specs.Machine.{Run, fullAt, reached, stepOf, driveOf, runOf, outsOf}
+use Rattle.clocking.specs.Machine.{Run, fullAt, stepOf, driveOf, runOf, outsOf}
 use Rattle.running.specs.Laws.{run-append, outs-append}
 use Rattle.judging.specs.Finish.{factsIn}
 
@@ -102,7 +102,7 @@ module _
         ∙ ap (behind (along out 0 xs)) (leaves (many xs) s′ ys (full (many xs)) refl (c .ends))
 
 -- ---- how the phases cut the samples
-pub cut-first : (c : Clocks) (zs : List ℕ) → Cut (reached c) zs (first c zs) (after c zs)
+pub cut-first : (c : Clocks) (zs : List ℕ) → Cut (atMost c) zs (first c zs) (after c zs)
 cut-first c zs =
     let k = length-take (c .0) zs in
     record {

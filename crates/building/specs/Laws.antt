@@ -14,9 +14,9 @@ use Rattle.units.specs.declared.Clocks.{Clocks}
 use Rattle.units.specs.declared.Bytes.{Bytes}
 use Rattle.units.specs.declared.Wires.{Wires}
 use Rattle.units.specs.declared.Wires.the-variants.{One, Two, Four}
-use Rattle.units.specs.Units.{clocks, perByte, clocksOf}
+use Rattle.units.specs.Units.{clocks, perByte, clocksOf, fewer}
 use Rattle.units.specs.Laws.{perByte-le}
-use Rattle.wires.specs.Bits.{spread}
+use Rattle.wires.specs.Bits.{spelled}
 use Rattle.wires.specs.Laws.{spread-length}
 use Rattle.opcodes.specs.declared.Kind.{Kind}
 use Rattle.commands.specs.declared.plans.Address.{Address}
@@ -28,7 +28,6 @@ use Rattle.pages.specs.Page.{Page, putsOf}
 use Rattle.pages.specs.Laws.{puts-append}
 use Rattle.paper.specs.InForce.{addressLength}
 use Rattle.paper.specs.Reading.{many}
-use Rattle.paper.specs.Answers.{fewer}
 use Rattle.paper.specs.Laws.{sent-many}
 use Rattle.paper.specs.Building.{Order, sentOn, manyBytes, bodyAsked, silent, dataSent, builtOf}
 use Rattle.building.specs.Sizes.{restOf, bytesSent, frontOf}
@@ -87,8 +86,8 @@ module _ (o : Order) (k : Kind) where
   unfolding builtOf frontOf
   built-length =
       let w = sentOn o in
-      let c = spread w (perByte w) (o .opcode) in
-      let a = spread v (addressLength (addressOf k) v .0) (o .address) in
+      let c = spelled w (perByte w) (o .opcode) in
+      let a = spelled v (addressLength (addressOf k) v .0) (o .address) in
       let q = silent (waitOf k w (o .cr2)) in
       let d = dataSent (bodyAsked o k) v o in
       rw (
@@ -119,12 +118,12 @@ module _ (o : Order) (k : Kind) where
       let ys = dataSent (bodyAsked o k) (laterWires k w) o in
       d ∙ ap (putsOf ys) e ∙ sym (puts-append xs ys p)
 
-  pub built-put : (p : Page) {q r t : Page} → q ≡ putsOf (spread (sentOn o) (perByte (sentOn o)) (o .opcode)) p
-      → r ≡ putsOf (spread v (addressLength (addressOf k) v .0) (o .address)) q → t ≡ putsOf (restOf o k (sentOn o)) r → t ≡ putsOf (builtOf o k) p
+  pub built-put : (p : Page) {q r t : Page} → q ≡ putsOf (spelled (sentOn o) (perByte (sentOn o)) (o .opcode)) p
+      → r ≡ putsOf (spelled v (addressLength (addressOf k) v .0) (o .address)) q → t ≡ putsOf (restOf o k (sentOn o)) r → t ≡ putsOf (builtOf o k) p
   unfolding builtOf restOf
   built-put p {q} e d f =
       let w = sentOn o in
-      let xs = spread w (perByte w) (o .opcode) in
-      let ys = spread v (addressLength (addressOf k) v .0) (o .address) in
+      let xs = spelled w (perByte w) (o .opcode) in
+      let ys = spelled v (addressLength (addressOf k) v .0) (o .address) in
       let zs = restOf o k w in
       f ∙ ap (putsOf zs) d ∙ sym (puts-append ys zs q) ∙ ap (putsOf (ys ++ zs)) e ∙ sym (puts-append xs (ys ++ zs) p)

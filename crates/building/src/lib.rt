@@ -1,10 +1,9 @@
 // A command as samples, and what of it is refused: the rows of the host's table, and the phases one after the other.
 ghost use mathlib.Core.Path.{_≡_};
 ghost use mathlib.Core.Bool.{_||_};
-ghost use Rattle.units.specs.Units.{clocks};
+ghost use Rattle.units.specs.Units.{clocks, fewer};
 ghost use Rattle.pages.specs.Page.{page, putsOf};
 ghost use Rattle.paper.specs.Reading.{many};
-ghost use Rattle.paper.specs.Answers.{fewer};
 ghost use Rattle.paper.specs.Building.{dataSent, builtOf};
 ghost use Rattle.orders.specs.Orders.{orderAs};
 ghost use Rattle.building.specs.Sizes.{restOf, bytesSent, frontOf, refusalOf};

@@ -1,5 +1,7 @@
 // Input of the programs that are held against the second one. Many tapes in one input stand each behind its length in four
 // bytes.
+ghost use mathlib.Core.Path.{_≡_};
+ghost use Prim.Native.Nat.{_+_, _*_};
 
 // Where a tape of the input ends: its number of bytes, or that the input ends before it.
 pub struct Taken {
@@ -14,7 +16,9 @@ fn took(whole: bool, last: bool, long: usize) -> Taken {
 }
 
 // Four bytes, the lowest first.
-pub fn number_of(a: u8, b: u8, c: u8, d: u8) -> u32 {
+pub fn number_of(a: u8, b: u8, c: u8, d: u8) -> u32
+    ensures { λ r. ⌜ r ≡ a + 256 * b + 65536 * (c + 256 * d) ⌝ }
+{
     let low = a as u32 + 256 * (b as u32);
     let high = c as u32 + 256 * (d as u32);
     low + 65536 * high

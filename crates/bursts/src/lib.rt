@@ -4,7 +4,6 @@
 ghost use mathlib.Core.Path.{_≡_};
 ghost use Prim.Native.Nat.{_≤_};
 ghost use lib.ListN.{getD, set};
-ghost use Rattle.record.specs.Devices.{settingOf};
 ghost use Rattle.paper.specs.Storing.{inArea, protectedAt, putAt};
 ghost use Rattle.paper.specs.Driving.{mappedByte, byteRead, levelAt, drivenAt};
 ghost use Rattle.bursts.specs.Lends.{lends};

@@ -2,11 +2,10 @@
 use Prim.Native.Nat.{ℕ}
 use mathlib.Core.Bool.{Bool, cond, _&&_}
 use mathlib.Core.List.{List, []}
-use lib.Dec.{eqb, leb}
+use lib.Dec.{eqb}
 use lib.ListN.{length}
-use Rattle.parts.specs.declared.Part.{Part}
 use Rattle.parts.specs.declared.Part.the-variants.{M, P}
-use Rattle.parts.specs.Parts.{leastOf, mostOf}
+use Rattle.parts.specs.Parts.{offered}
 use Rattle.counts.specs.Counts.{noCounts}
 use Rattle.record.specs.declared.Answer.the-variants.{Done, Size, State}
 use Rattle.record.specs.declared.Device.{Device}
@@ -27,10 +26,6 @@ pub record Made : Type 0 where
 
 abbrev pub madeAs : ℕ → List ℕ → Made
 madeAs v chip = record { answer = v; chip = chip }
-
--- a part has memories of 2^n bytes
-unfoldable pub offered : Part → ℕ → Bool
-offered p n = leb (leastOf p) n && leb n (mostOf p)
 
 -- 3 for a buffer that is not a chip's length, 1 for anything asked for that no chip has; the buffer is then as it was
 abbrev pub made : Bool → Device → List ℕ → Made

@@ -1,18 +1,16 @@
 -- A call that is answered 1, 2 or 3 changes nothing of what C lent, but that the five counts are 0. Also where the refusal is the device's own, after the chip was read from its bytes and written again.
 -- Assumes nothing.
-use mathlib.Core.Path.{_≡_, refl, sym, ap, _∙_}
+use mathlib.Core.Path.{_≡_, refl, ap, _∙_}
 use Prim.Native.Nat.{ℕ}
-use mathlib.Core.Bool.{Bool, true, false, cond, _&&_}
+use mathlib.Core.Bool.{Bool, true, false, cond}
 use mathlib.Core.List.{List, []}
-use lib.Dec.{leb}
 use Rattle.counts.specs.declared.Counts.{Counts}
 use Rattle.counts.specs.Counts.{noCounts}
 use Rattle.paper.specs.Storing.{Lent}
 use Rattle.paper.specs.Transaction.{World, refusal}
-use Rattle.record.specs.declared.Answer.{Answer}
-use Rattle.record.specs.declared.Answer.the-variants.{Done, Size, Sample, State, Short, Unknown, Asleep, Address, Latch, Protected, Reserved, Long, Unarmed}
-use Rattle.record.specs.Answers.{answerNumber}
-use Rattle.theorems.specs.Refused.{refuses, Untouched, refused, power-refused}
+use Rattle.record.specs.declared.Answer.the-variants.{Size}
+use Rattle.record.specs.Answers.{refusing, refuses}
+use Rattle.theorems.specs.Refused.{Untouched, refused, power-refused}
 use Rattle.chips.specs.Chips.{isChip, chipOf, bytesOf}
 use Rattle.chips.specs.Words.{hasCounts, countsOver}
 use Rattle.chips.specs.Laws.{write-back}
@@ -24,25 +22,6 @@ pub record Kept (chip : List ℕ) (l : Lent) (out counts : List ℕ) (k : Call) 
   pub lent-kept : k .lent ≡ l
   pub output-kept : k .output ≡ out
   pub counts-none : k .counts ≡ countsOver noCounts counts
-
--- 1, 2 and 3, as numbers
-abbrev pub refusing : ℕ → Bool
-refusing v = leb 1 v && leb v 3
-
-refusing-is : (v : Answer) → refusing (answerNumber v) ≡ refuses v
-refusing-is Done = refl
-refusing-is Size = refl
-refusing-is Sample = refl
-refusing-is State = refl
-refusing-is Short = refl
-refusing-is Unknown = refl
-refusing-is Asleep = refl
-refusing-is Address = refl
-refusing-is Latch = refl
-refusing-is Protected = refl
-refusing-is Reserved = refl
-refusing-is Long = refl
-refusing-is Unarmed = refl
 
 module _ (chip : List ℕ) (l : Lent) (out counts : List ℕ) where
   -- a world that is untouched when it refuses is so in bytes
@@ -60,7 +39,7 @@ module _ (chip : List ℕ) (l : Lent) (out counts : List ℕ) where
       strange = record { answer = 3; chip = chip; lent = l; output = out; counts = countsOver noCounts counts }
 
       by : (b : Bool) → isChip chip ≡ b → refusing (cond b (inBytes w counts) strange .answer) ≡ true → Kept chip l out counts (cond b (inBytes w counts) strange)
-      by true y e = in-bytes w y (u (sym (refusing-is (w .answer)) ∙ e))
+      by true y e = in-bytes w y (u e)
       by false n e = record { chip-kept = refl; lent-kept = refl; output-kept = refl; counts-none = refl }
 
   -- no room for the counts refuses too

@@ -1,36 +1,19 @@
--- UNIQUE: any two answers, with all that they leave in what C lent, that the contract of a call allows for the same inputs are equal.
+-- UNIQUE for the calls from C: a fresh chip, a call of the device, a call of the host half. What their contracts show is the answer and every buffer as the call leaves it,
+-- as they are, so that there is nothing to find again.
 -- Assumes nothing.
-use mathlib.Core.Path.{_≡_, sym, ap, _∙_}
-use Prim.Native.Nat.{ℕ}
-use mathlib.Core.List.{List}
-use Rattle.cabi.specs.Calls.{Made, madeAs, Call, callAs}
-use Rattle.cabi.specs.Fills.{Filled, filledAs}
+use mathlib.Core.Path.{_≡_, refl}
+use Rattle.basis.specs.Unique.{unique}
+use Rattle.cabi.specs.Calls.{Made, Call}
+use Rattle.cabi.specs.Fills.{Filled}
 
--- two calls of the device leave the same
-pub record Same (v v′ : ℕ) (c c′ m m′ a a′ o o′ n n′ : List ℕ) : Type 0 where
-  pub answer : v ≡ v′
-  pub chip : c ≡ c′
-  pub memory : m ≡ m′
-  pub area : a ≡ a′
-  pub output : o ≡ o′
-  pub counts : n ≡ n′
+one : {L : Type 0} {x y v : L} → x ≡ v → y ≡ v → x ≡ y
+one {L} = unique (λ (x : L). x) (λ (x : L). x) (λ x. refl)
 
--- the contracts fix what is made, left or filled, and all of it is found there
-module _ {v v′ : ℕ} where
-  pub made-unique : (m : Made) {c c′ : List ℕ} → madeAs v c ≡ m → madeAs v′ c′ ≡ m → (v ≡ v′) × (c ≡ c′)
-  made-unique m e f = let s = e ∙ sym f in (ap (λ (z : Made). z .answer) s, ap (λ (z : Made). z .chip) s)
+pub made-unique : {x y made : Made} → x ≡ made → y ≡ made → x ≡ y
+made-unique = one
 
-  pub call-unique : (k : Call) {c c′ m m′ a a′ o o′ n n′ : List ℕ} → callAs v c m a o n ≡ k → callAs v′ c′ m′ a′ o′ n′ ≡ k → Same v v′ c c′ m m′ a a′ o o′ n n′
-  call-unique k e f =
-      let s = e ∙ sym f in
-      record {
-        answer = ap (λ (z : Call). z .answer) s;
-        chip = ap (λ (z : Call). z .chip) s;
-        memory = ap (λ (z : Call). z .lent .memory) s;
-        area = ap (λ (z : Call). z .lent .area) s;
-        output = ap (λ (z : Call). z .output) s;
-        counts = ap (λ (z : Call). z .counts) s;
-      }
+pub call-unique : {x y call : Call} → x ≡ call → y ≡ call → x ≡ y
+call-unique = one
 
-  pub filled-unique : (g : Filled) {b b′ n n′ : List ℕ} → filledAs v b n ≡ g → filledAs v′ b′ n′ ≡ g → (v ≡ v′) × ((b ≡ b′) × (n ≡ n′))
-  filled-unique g e f = let s = e ∙ sym f in (ap (λ (z : Filled). z .answer) s, (ap (λ (z : Filled). z .buffer) s, ap (λ (z : Filled). z .number) s))
+pub filled-unique : {x y filled : Filled} → x ≡ filled → y ≡ filled → x ≡ y
+filled-unique = one

@@ -6,7 +6,7 @@ ghost use lib.ListN.{length};
 ghost use Rattle.units.specs.Units.{bytes};
 ghost use Rattle.bursts.specs.Lends.{lends};
 ghost use Rattle.chips.specs.Chips.{chipSize};
-ghost use Rattle.cabi.specs.Calls.{madeAs, freshMIn, freshPIn, offered, callAs, outcomeTold, transactIn, powerIn};
+ghost use Rattle.cabi.specs.Calls.{madeAs, freshMIn, freshPIn, callAs, outcomeTold, transactIn, powerIn};
 ghost use Rattle.cabi.specs.Fills.{filledAs, orderIn, buildIn, gatherIn};
 use chips::CHIP;
 use chips::COUNTS;
@@ -21,6 +21,7 @@ use counts::Counts;
 use judging::Outcome;
 use orders::Order;
 use parts::Part;
+use parts::is_offered;
 use record::Device;
 use record::answer_number;
 use units::Bytes;
@@ -31,16 +32,6 @@ const DONE: u8 = 0;
 const SIZE: u8 = 1;
 
 const STATE: u8 = 3;
-
-// Whether a part has memories of 2^n bytes.
-fn is_offered(part: Part, n: u8) -> bool
-    ensures { λ r. ⌜ r ≡ offered part n ⌝ }
-{
-    if n < part.least() {
-        return false;
-    }
-    n <= part.most()
-}
 
 // A fresh chip of part M, with its four bytes of device identity and its unique number.
 #[no_mangle]

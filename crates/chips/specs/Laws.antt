@@ -11,7 +11,7 @@ use lib.Dec.{lit≤, eqb, leb}
 use lib.ListN.{length, getD, take, drop, set, length-append, drop-of-length-le}
 use lib.Seq.{drop-cons, take-all, take-append-seam, drop-append-add, lt-length-sets, sets-eq}
 use borrow.Author.Tests.{eqb-true, leb-true}
-use Rattle.basis.specs.Truth.{untrue}
+use Rattle.basis.specs.Truth.{both-true}
 use Rattle.pages.specs.Page.{Page, page, putsOf}
 use Rattle.pages.specs.Laws.{puts-append, puts-front}
 use Rattle.counts.specs.declared.Counts.{Counts}
@@ -150,20 +150,16 @@ upTo-is : (at n : ℕ) (bs : List ℕ) → at + n ≡ length bs → upTo at n bs
 upTo-is at zero bs e = sym (drop-of-length-le bs {i = at} (omega (arith, e)))
 upTo-is at (suc n) bs e = ap (λ (l : List ℕ). getD bs at 0 ∷ l) (upTo-is (suc at) n bs (omega (arith, e))) ∙ sym (drop-cons bs at 0 (omega (arith, e)))
 
-and-parts : (a b : Bool) → (a && b) ≡ true → (a ≡ true) × (b ≡ true)
-and-parts true b e = (refl, e)
-and-parts false b e = untrue e
-
 pub chip-long : (bs : List ℕ) → isChip bs ≡ true → length bs ≡ chipSize
 unfolding isChip
-chip-long bs e = eqb-true _ _ (and-parts (eqb (length bs) chipSize) _ e .0)
+chip-long bs e = eqb-true _ _ (both-true (eqb (length bs) chipSize) _ e .0)
 
 -- WRITTEN BACK: bytes that are a chip's are those of the record that they stand for, so that no two such buffers stand for one record
 pub write-back : (bs : List ℕ) → isChip bs ≡ true → bytesOf (chipOf bs) ≡ bs
 unfolding isChip chipOf bytesOf
 write-back bs e =
-    let (long, f) = and-parts (eqb (length bs) chipSize) _ e in
-    let (latch, g) = and-parts (isFlag 10 bs) _ f in
-    let (armed, h) = and-parts (isFlag 11 bs) _ g in
-    let (asleep, toggle) = and-parts (isFlag 12 bs) _ h in
+    let (long, f) = both-true (eqb (length bs) chipSize) _ e in
+    let (latch, g) = both-true (isFlag 10 bs) _ f in
+    let (armed, h) = both-true (isFlag 11 bs) _ g in
+    let (asleep, toggle) = both-true (isFlag 12 bs) _ h in
     rw (bit-back (getD bs 10 0) latch, bit-back (getD bs 11 0) armed, bit-back (getD bs 12 0) asleep, bit-back (getD bs 13 0) toggle) (upTo-is 0 38 bs (sym (eqb-true _ _ long)))

@@ -3,12 +3,12 @@
 use Prim.Native.Nat.{ℕ, _%_}
 use mathlib.Core.Bool.{Bool, true, false, cond}
 use mathlib.Core.List.{List, [], _∷_}
-use lib.Dec.{eqb, leb}
+use lib.Dec.{eqb}
 use lib.ListN.{replicate}
 use Rattle.units.specs.declared.Clocks.{Clocks}
 use Rattle.units.specs.declared.Bytes.{Bytes}
 use Rattle.units.specs.declared.Wires.{Wires}
-use Rattle.units.specs.Units.{clocks, wholeOf, unfinishedOf}
+use Rattle.units.specs.Units.{clocks, next, atMost, atMostBytes, wholeOf, unfinishedOf}
 use Rattle.wires.specs.Bits.{shiftOf}
 use Rattle.opcodes.specs.declared.Kind.{Kind}
 use Rattle.opcodes.specs.declared.Kind.the-variants.{Unknown}
@@ -16,7 +16,7 @@ use Rattle.opcodes.specs.Kinds.{kindOf}
 use Rattle.commands.specs.declared.plans.Body.{Body}
 use Rattle.commands.specs.declared.plans.Body.the-variants.{Nothing, FixedRead, AnyRead, FixedWrite, AnyWrite}
 use Rattle.counts.specs.declared.Counts.{Counts}
-use Rattle.counts.specs.Counts.{noCounts, commandTick, addressTick, waitTick, bodyTick, restTick, next}
+use Rattle.counts.specs.Counts.{noCounts, commandTick, addressTick, waitTick, bodyTick, restTick}
 use Rattle.record.specs.declared.Device.{Device}
 use Rattle.record.specs.declared.Setting.{Setting}
 use Rattle.record.specs.Devices.{settingOf}
@@ -39,31 +39,27 @@ beginOf = at Command Unknown 0 0 noCounts (replicate 8 0) false
 -- the data phase is full after t clocks
 abbrev pub fullAt : Body → Wires → Clocks → Bool
 fullAt Nothing w t = true
-fullAt (FixedRead b) w t = leb (b .0) (wholeOf w t .0)
+fullAt (FixedRead b) w t = atMostBytes b (wholeOf w t)
 fullAt AnyRead w t = false
-fullAt (FixedWrite b) w t = leb (b .0) (wholeOf w t .0)
+fullAt (FixedWrite b) w t = atMostBytes b (wholeOf w t)
 fullAt AnyWrite w t = false
-
--- so many clocks are all that a phase has
-abbrev pub reached : Clocks → Clocks → Bool
-reached c t = leb (c .0) (t .0)
 
 -- ---- entering a phase, past those that have no clocks
 unfoldable pub toData : Setting → Kind → ℕ → Counts → List ℕ → Bool → Progress
 toData s k a c v any = cond (fullAt (bodyFor s k a) (wiresFor s k) (clocks 0)) (at Rest k a 0 c v any) (at Data k a 0 c v any)
 
 unfoldable pub toWait : Setting → Kind → ℕ → Counts → List ℕ → Bool → Progress
-toWait s k a c v any = cond (reached (waitClocks s k a) (clocks 0)) (toData s k a c v any) (at Wait k a 0 c v any)
+toWait s k a c v any = cond (atMost (waitClocks s k a) (clocks 0)) (toData s k a c v any) (at Wait k a 0 c v any)
 
 unfoldable pub toAddress : Setting → Kind → Counts → List ℕ → Bool → Progress
-toAddress s k c v any = cond (reached (addressClocks s k) (clocks 0)) (toWait s k 0 c v any) (at Address k 0 0 c v any)
+toAddress s k c v any = cond (atMost (addressClocks s k) (clocks 0)) (toWait s k 0 c v any) (at Address k 0 0 c v any)
 
 -- ---- one clock of each phase
 unfoldable pub commandStep : Setting → Progress → ℕ → Progress
 commandStep s p x =
     let number = shiftOf (s .wires) (p .number) x in
     let c = commandTick (p .counts) in
-    cond (reached (commandClocks s) (c .command))
+    cond (atMost (commandClocks s) (c .command))
     (toAddress s (kindOf (s .part) (s .wires) (number % 256)) c (p .value) (p .any))
     (at Command (p .kind) (p .address) number c (p .value) (p .any))
 
@@ -71,14 +67,14 @@ unfoldable pub addressStep : Setting → Progress → ℕ → Progress
 addressStep s p x =
     let number = shiftOf (wiresFor s (p .kind)) (p .number) x in
     let c = addressTick (p .counts) in
-    cond (reached (addressClocks s (p .kind)) (c .address))
+    cond (atMost (addressClocks s (p .kind)) (c .address))
     (toWait s (p .kind) number c (p .value) (p .any))
     (at Address (p .kind) (p .address) number c (p .value) (p .any))
 
 unfoldable pub waitStep : Setting → Progress → Progress
 waitStep s p =
     let c = waitTick (p .counts) in
-    cond (reached (waitClocks s (p .kind) (p .address)) (c .wait))
+    cond (atMost (waitClocks s (p .kind) (p .address)) (c .wait))
     (toData s (p .kind) (p .address) c (p .value) (p .any))
     (at Wait (p .kind) (p .address) 0 c (p .value) (p .any))
 

@@ -37,23 +37,23 @@ pub fn fill(out: &mut [u8]) {
 }
 
 // The place on the page, and whether to go on.
-pub struct State {
+pub struct Printed {
     pub place: usize,
     pub go: bool,
 }
 
-pub fn stopped(place: usize) -> State {
-    State { place, go: false }
+pub fn stopped(place: usize) -> Printed {
+    Printed { place, go: false }
 }
 
 // The input ends too early.
-pub fn cut(text: &mut [u8], at: usize) -> State {
+pub fn cut(text: &mut [u8], at: usize) -> Printed {
     stopped(put_all(text, at, b"cut\n"))
 }
 
 // A line is done.
-pub fn going(text: &[u8], place: usize) -> State {
-    State {
+pub fn going(text: &[u8], place: usize) -> Printed {
+    Printed {
         place: text::flush_full(text, place),
         go: true,
     }

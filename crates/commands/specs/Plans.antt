@@ -1,7 +1,9 @@
 -- The plan of a command: on which wires it travels, what its address names, how long it waits, what its data is. Document 01, the columns of the
 -- two command tables and the paragraphs below them.
 use Prim.Native.Nat.{ℕ, _+_, _*_, _%_}
+use mathlib.Core.Bool.{Bool}
 use mathlib.Core.List.{List, [], _∷_, _++_}
+use lib.Dec.{eqb}
 use lib.ListN.{getD}
 use Rattle.units.specs.declared.Clocks.{Clocks}
 use Rattle.units.specs.declared.Wires.{Wires}
@@ -56,6 +58,9 @@ waitRow (ReadMemory Reads.Wrapped) = 4
 waitRow (WriteMemory s) = 0
 waitRow ReadArea = 5
 waitRow WriteArea = 0
+
+abbrev pub waitsByRegister : Kind → Bool
+waitsByRegister k = eqb (waitRow k) 5
 
 abbrev pub columnOf : Wires → ℕ
 columnOf On.One = 0

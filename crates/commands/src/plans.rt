@@ -1,6 +1,6 @@
 // The plan of a command: what its clocks are for.
 ghost use mathlib.Core.Path.{_≡_};
-ghost use Rattle.commands.specs.Plans.{columnOf, waitRow, waitOf, laterWires, addressOf, mappedBody, bodyOf};
+ghost use Rattle.commands.specs.Plans.{columnOf, waitRow, waitsByRegister, waitOf, laterWires, addressOf, mappedBody, bodyOf};
 use crate::registers::Mapped;
 use crate::registers::register_at;
 use crate::registers::size_of;
@@ -58,6 +58,13 @@ fn wait_row(k: Kind) -> usize
         Kind::ReadArea => 5,
         Kind::WriteArea => 0,
     }
+}
+
+// Whether the wait stands in configuration 2.
+pub fn waits_by_register(k: Kind) -> bool
+    ensures { λ r. ⌜ r ≡ waitsByRegister k ⌝ }
+{
+    wait_row(k) == 5
 }
 
 // The column of a bus mode.

@@ -3,24 +3,22 @@ use columns::column;
 use columns::digest_column;
 use judging::Outcome;
 use lines::five;
+use record::Answer;
 use record::Device;
 use record::answer_number;
+use record::is_refusal;
 use text::put;
 use text::put_all;
 use text::put_bytes;
 use text::put_decimal;
 use text::put_hex;
 
-pub fn answer_of(r: Outcome) -> u8 {
-    let answer = r.answer;
-    answer_number(answer)
-}
-
 // The number of a call, its answer and its five counts.
 pub fn call_columns(text: &mut [u8], at: usize, k: u64, r: Outcome) -> usize {
+    let answer = r.answer;
     let counts = r.counts;
     let a = put_decimal(text, at, k);
-    let b = column(text, a, answer_of(r) as u64);
+    let b = column(text, a, answer_number(answer) as u64);
     five(text, b, counts)
 }
 
@@ -133,9 +131,15 @@ fn driven(text: &mut [u8], at: usize, out: &[u8]) -> usize {
 }
 
 // What a transaction drove: nothing where it was refused.
-pub fn output_columns(text: &mut [u8], at: usize, answer: u8, long: usize, out: &[u8]) -> usize {
+pub fn output_columns(
+    text: &mut [u8],
+    at: usize,
+    answer: Answer,
+    long: usize,
+    out: &[u8],
+) -> usize {
     let a = digest_column(text, at, out);
-    if answer == 1 || answer == 2 || answer == 3 {
+    if is_refusal(answer) {
         return put_all(text, a, b" - -");
     }
     if out.len() < long {

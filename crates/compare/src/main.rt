@@ -1,16 +1,18 @@
 // Many tapes in one input, each behind its length, and for each record one line with all that it left: the record,
 // digests of memory, area and output, and the driven samples. The second program prints the same.
 use bundles::take_tape;
+use columns::Printed;
 use columns::column;
+use columns::cut;
 use columns::digest_column;
 use columns::fill;
-use compact::answer_of;
 use compact::call_columns;
 use compact::chip;
 use compact::output_columns;
 use judging::Outcome;
 use lines::last_line;
 use lines::verdict;
+use record::Answer;
 use session::Session;
 use tape::Entry;
 use text::put;
@@ -22,10 +24,17 @@ struct State {
     go: bool,
 }
 
-fn output_of(text: &mut [u8], at: usize, e: Entry, answer: u8, long: usize, out: &[u8]) -> usize {
+fn output_of(
+    text: &mut [u8],
+    at: usize,
+    e: Entry,
+    answer: Answer,
+    long: usize,
+    out: &[u8],
+) -> usize {
     match e {
         Entry::End => at,
-        Entry::Bad => at,
+        Entry::Bad(_) => at,
         Entry::Transaction => output_columns(text, at, answer, long, out),
         Entry::PowerCycle => put_all(text, at, b" - - -"),
         Entry::Fresh { part: _, n: _ } => put_all(text, at, b" - - -"),
@@ -40,14 +49,16 @@ fn line(text: &mut [u8], at: usize, k: u64, r: Outcome) -> usize {
 
 // Digests of the chip's part of memory and area.
 fn stores(text: &mut [u8], at: usize, s: Session, memory: &[u8], area: &[u8]) -> usize {
-    if memory.len() < s.memory {
+    let size = s.socket.memory.0;
+    let edge = s.socket.area.0;
+    if memory.len() < size {
         return at;
     }
-    if area.len() < s.area {
+    if area.len() < edge {
         return at;
     }
-    let a = digest_column(text, at, &memory[..s.memory]);
-    digest_column(text, a, &area[..s.area])
+    let a = digest_column(text, at, &memory[..size]);
+    digest_column(text, a, &area[..edge])
 }
 
 // The samples of the record at a place.
@@ -74,7 +85,8 @@ fn record_line(
     let next = t.session;
     let a = line(text, at, k, r);
     let b = stores(text, a, next, memory, area);
-    let c = output_of(text, b, e, answer_of(r), long, out);
+    let answer = r.answer;
+    let c = output_of(text, b, e, answer, long, out);
     put(text, c, b'\n')
 }
 
@@ -185,55 +197,44 @@ fn tape_line(text: &mut [u8], at: usize, k: u64, long: usize) -> usize {
     put(text, c, b'\n')
 }
 
-struct Bundle {
-    place: usize,
-    go: bool,
-}
-
 // Tape k.
 fn tape_turn(
-    b: Bundle,
+    p: Printed,
     k: u64,
     tape: &mut [u8],
     memory: &mut [u8],
     area: &mut [u8],
     output: &mut [u8],
     text: &mut [u8],
-) -> Bundle {
+) -> Printed {
     let t = take_tape(tape);
     if !t.whole {
-        return Bundle {
-            place: put_all(text, b.place, b"cut\n"),
-            go: false,
-        };
+        return cut(text, p.place);
     }
     if t.last {
-        return Bundle {
-            place: b.place,
-            go: false,
-        };
+        return columns::stopped(p.place);
     }
-    let place = tape_line(text, b.place, k, t.long);
+    let place = tape_line(text, p.place, k, t.long);
     if tape.len() < t.long {
-        return Bundle {
+        return Printed {
             place: last_line(text, place, b"bad", 0),
             go: true,
         };
     }
-    Bundle {
+    Printed {
         place: run(&tape[..t.long], memory, area, output, text, place),
         go: true,
     }
 }
 
 fn all(tape: &mut [u8], memory: &mut [u8], area: &mut [u8], output: &mut [u8], text: &mut [u8]) {
-    let mut b = Bundle { place: 0, go: true };
+    let mut p = Printed { place: 0, go: true };
     let mut k = 0;
-    while k < 1000000 && b.go {
+    while k < 1000000 && p.go {
         k += 1;
-        b = tape_turn(b, k, tape, memory, area, output, text);
+        p = tape_turn(p, k, tape, memory, area, output, text);
     }
-    text::flush(text, b.place);
+    text::flush(text, p.place);
 }
 
 fn main() {

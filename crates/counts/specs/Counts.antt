@@ -1,7 +1,7 @@
 -- The five clock counts. Document 01, "Answer numbers", the paragraph on counts: command, address, wait, data, rest, in this order.
 use Prim.Native.Nat.{_+_}
 use Rattle.units.specs.declared.Clocks.{Clocks}
-use Rattle.units.specs.Units.{clocks}
+use Rattle.units.specs.Units.{clocks, next}
 use Rattle.counts.specs.declared.Counts.{Counts}
 
 abbrev pub counted : Clocks → Clocks → Clocks → Clocks → Clocks → Counts
@@ -13,9 +13,6 @@ noCounts = counted (clocks 0) (clocks 0) (clocks 0) (clocks 0) (clocks 0)
 -- all clocks together
 abbrev pub total : Counts → Clocks
 total c = clocks (c .command .0 + c .address .0 + c .wait .0 + c .body .0 + c .rest .0)
-
-abbrev pub next : Clocks → Clocks
-next c = clocks (c .0 + 1)
 
 -- one clock more of a phase
 abbrev pub commandTick : Counts → Counts

@@ -13,7 +13,7 @@ use borrow.Author.Tests.{lt-ltb, le-ltb, leb-true}
 use Rattle.basis.specs.Truth.{both-true}
 use Rattle.parts.specs.declared.Part.{Part}
 use Rattle.parts.specs.declared.Part.the-variants.{M, P}
-use Rattle.parts.specs.Parts.{partOf, knownPart, leastOf, mostOf}
+use Rattle.parts.specs.Parts.{partOf, knownPart, leastOf, mostOf, offered}
 use Rattle.record.specs.declared.Device.{Device}
 use Rattle.paper.specs.Storing.{Lent}
 use Rattle.paper.specs.Transaction.{sizedFor, roomFor, sampled}
@@ -24,13 +24,16 @@ pub most-le : (p : Part) → mostOf p ≤ 24
 most-le M = lit≤ tt
 most-le P = lit≤ tt
 
+pub offered-reach : (p : Part) (n : ℕ) → offered p n ≡ true → n ≤ 24
+unfolding offered
+offered-reach p n e = le-trans (leb-true n (mostOf p) (both-true (leb (leastOf p) n) (leb n (mostOf p)) e .1)) (most-le p)
+
 -- what the checks of sizes tell
 pub sized-reach : (d : Device) (l : Lent) → sizedFor d l ≡ true → d .n ≤ 24
 unfolding sizedFor
 sized-reach d l e =
     let p = partOf (d .part) in
-    let rest = both-true (leb (leastOf p) (d .n)) _ (both-true (knownPart (d .part)) _ e .1) .1 in
-    le-trans (leb-true (d .n) (mostOf p) (both-true (leb (d .n) (mostOf p)) _ rest .0)) (most-le p)
+    offered-reach p (d .n) (both-true (offered p (d .n)) _ (both-true (knownPart (d .part)) _ e .1) .0)
 
 -- and all that the clocks ask
 pub passed : (d : Device) (l : Lent) (xs out : List ℕ) → sizedFor d l ≡ true → roomFor xs out ≡ true → Passed d xs out

@@ -1,3 +1,3 @@
-pub mod Worlds
+pub mod Outcomes
 pub mod Laws
 pub mod Unique

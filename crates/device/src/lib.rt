@@ -5,7 +5,7 @@ ghost use lib.ListN.{length, replicate};
 ghost use Rattle.bursts.specs.Lends.{lends};
 ghost use Rattle.paper.specs.Transaction.{sizedFor, roomFor, sampled, transactOf, powerOf};
 ghost use Rattle.parting.specs.Parting.{worldOf};
-ghost use Rattle.device.specs.Worlds.{unclockedOf};
+ghost use Rattle.device.specs.Outcomes.{unclockedOf};
 use counts::Counts;
 use judging::Outcome;
 use parts::Part;
@@ -22,10 +22,7 @@ pub fn is_sized(d: Device, memory: &[u8], area: &[u8]) -> bool
         return false;
     }
     let part = Part::of(number);
-    if n < part.least() {
-        return false;
-    }
-    if part.most() < n {
+    if !parts::is_offered(part, n) {
         return false;
     }
     let size = places::memory_size(n);

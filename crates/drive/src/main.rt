@@ -11,7 +11,7 @@ use drive_texts::put_long;
 use drive_texts::put_refusal;
 use drive_texts::put_wrong;
 use orders::Order;
-use record::answer_number;
+use record::is_done;
 use text::flush_to;
 use text::put;
 use units::Bytes;
@@ -112,7 +112,7 @@ fn build(page: &mut [u8], a: Asked, written: &[u8], samples: &mut [u8]) {
     let r = host::build(o, written, samples);
     let answer = r.answer;
     let n = r.clocks.0;
-    if answer_number(answer) != 0 {
+    if !is_done(answer) {
         let b = put_refusal(page, 0, o, answer);
         flush_to(2, page, b);
         return;

@@ -2,9 +2,7 @@
 ghost use mathlib.Core.Path.{_≡_};
 ghost use Prim.Native.Nat.{_<_, _≤_};
 ghost use lib.ListN.{set};
-ghost use Rattle.units.specs.Units.{unfinishedOf};
 ghost use Rattle.counts.specs.Counts.{total};
-ghost use Rattle.bursts.specs.Lends.{lends};
 ghost use Rattle.paper.specs.Storing.{stored};
 ghost use Rattle.clocking.specs.Machine.{heldBack, holds, byteIn, held, dataStep, stepOf, driveOf};
 ghost use Rattle.feeding.specs.Views.{takenAs, heldAs, runAs};

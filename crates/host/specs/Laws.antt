@@ -7,16 +7,16 @@ use mathlib.Core.List.{List, []}
 use lib.ListN.{length}
 use borrow.Author.Tests.{ltb-false}
 use Rattle.basis.specs.Truth.{neither}
-use Rattle.units.specs.Units.{clocks, bytes}
+use Rattle.units.specs.Units.{clocks, bytes, fewer}
 use Rattle.opcodes.specs.declared.Kind.{Kind}
 use Rattle.record.specs.declared.Answer.{Answer}
 use Rattle.record.specs.Devices.{modeWires}
 use Rattle.pages.specs.Page.{Page, page, putsOf}
 use Rattle.pages.specs.Laws.{puts-front}
+use Rattle.record.specs.Answers.{isDone}
 use Rattle.paper.specs.Reading.{many}
-use Rattle.paper.specs.Answers.{fewer}
 use Rattle.theorems.specs.ExactOrder.{clear-rows}
-use Rattle.paper.specs.Transaction.{isDone, over}
+use Rattle.paper.specs.Transaction.{over}
 use Rattle.paper.specs.Building.{Order, kindAsked, builtOf, told, buildRows, buildOf}
 use Rattle.paper.specs.Collecting.{collected, collectRows, collectOf}
 use Rattle.orders.specs.declared.Order as code

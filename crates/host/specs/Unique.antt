@@ -1,8 +1,9 @@
--- UNIQUE: any two results, with all that they leave in the buffer, that the contract of a call allows for the same inputs are equal.
+-- UNIQUE for the host half's two calls.
 -- Assumes nothing.
-use mathlib.Core.Path.{_≡_, sym, ap, _∙_}
+use mathlib.Core.Path.{_≡_, refl}
 use Prim.Native.Nat.{ℕ}
 use mathlib.Core.List.{List}
+use Rattle.basis.specs.Unique.{unique}
 use Rattle.units.specs.declared.Clocks.{Clocks}
 use Rattle.units.specs.declared.Bytes.{Bytes}
 use Rattle.paper.specs.Building.{Order, Told, buildOf}
@@ -11,21 +12,26 @@ use Rattle.host.specs.declared.Built.{Built}
 use Rattle.host.specs.declared.Gathered.{Gathered}
 use Rattle.host.specs.Results.{builtAs, gatheredAs}
 
--- two results of any kind and what they leave are the same
-pub record Same {R : Type 0} (r r′ : R) (out out′ : List ℕ) : Type 0 where
-  pub result : r ≡ r′
-  pub buffer : out ≡ out′
+-- a result of either call, and the buffer as the call leaves it
+pub record Ended (R : Type 0) : Type 0 where
+  pub result : R
+  pub buffer : List ℕ
 
--- all of it is found in what is told, which the contracts fix
-abbrev builtIn : Told Clocks → Built
-builtIn t = record { answer = t .answer; clocks = t .number }
+abbrev pub showsBuilt : Ended Built → Told Clocks
+showsBuilt x = builtAs (x .result) (x .buffer)
 
-abbrev gatheredIn : Told Bytes → Gathered
-gatheredIn t = record { answer = t .answer; bytes = t .number }
+abbrev pub showsGathered : Ended Gathered → Told Bytes
+showsGathered x = gatheredAs (x .result) (x .buffer)
 
-pub build-unique : (o : Order) (out : List ℕ) {r r′ : Built} {z z′ : List ℕ} → builtAs r z ≡ buildOf o out → builtAs r′ z′ ≡ buildOf o out → Same r r′ z z′
-build-unique o out e f = let s = e ∙ sym f in record { result = ap builtIn s; buffer = ap (λ (t : Told Clocks). t .buffer) s }
+abbrev findsBuilt : Told Clocks → Ended Built
+findsBuilt t = record { result = record { answer = t .answer; clocks = t .number }; buffer = t .buffer }
 
-pub gather-unique : (wires : ℕ) (driven out : List ℕ) {r r′ : Gathered} {z z′ : List ℕ} → gatheredAs r z ≡ collectOf wires driven out
-    → gatheredAs r′ z′ ≡ collectOf wires driven out → Same r r′ z z′
-gather-unique wires driven out e f = let s = e ∙ sym f in record { result = ap gatheredIn s; buffer = ap (λ (t : Told Bytes). t .buffer) s }
+abbrev findsGathered : Told Bytes → Ended Gathered
+findsGathered t = record { result = record { answer = t .answer; bytes = t .number }; buffer = t .buffer }
+
+pub build-unique : (o : Order) (out : List ℕ) {x y : Ended Built} → showsBuilt x ≡ buildOf o out → showsBuilt y ≡ buildOf o out → x ≡ y
+build-unique o out = unique showsBuilt findsBuilt (λ x. refl)
+
+pub gather-unique : (wires : ℕ) (driven out : List ℕ) {x y : Ended Gathered} → showsGathered x ≡ collectOf wires driven out
+    → showsGathered y ≡ collectOf wires driven out → x ≡ y
+gather-unique wires driven out = unique showsGathered findsGathered (λ x. refl)

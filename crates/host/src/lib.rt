@@ -1,6 +1,5 @@
 // The host half: a command becomes samples, and what the device drives becomes bytes. Nothing is asked of the caller.
 ghost use mathlib.Core.Path.{_≡_};
-ghost use Rattle.paper.specs.Transaction.{isDone};
 ghost use Rattle.paper.specs.Building.{buildOf};
 ghost use Rattle.paper.specs.Collecting.{collectOf};
 ghost use Rattle.orders.specs.Orders.{orderAs};
@@ -10,6 +9,7 @@ use collecting::put_collected;
 use orders::Order;
 use orders::kind_asked;
 use record::Answer;
+use record::is_done;
 use record::mode_wires;
 use units::Bytes;
 use units::Clocks;
@@ -24,27 +24,6 @@ pub struct Built {
 pub struct Gathered {
     pub answer: Answer,
     pub bytes: Bytes,
-}
-
-// Whether an answer refuses nothing.
-fn is_done(v: Answer) -> bool
-    ensures { λ r. ⌜ r ≡ isDone v ⌝ }
-{
-    match v {
-        Answer::Done => true,
-        Answer::Size => false,
-        Answer::Sample => false,
-        Answer::State => false,
-        Answer::Short => false,
-        Answer::Unknown => false,
-        Answer::Asleep => false,
-        Answer::Address => false,
-        Answer::Latch => false,
-        Answer::Protected => false,
-        Answer::Reserved => false,
-        Answer::Long => false,
-        Answer::Unarmed => false,
-    }
 }
 
 // The samples of a command. A read has a number of bytes in the order, a write has its bytes in `written`.

@@ -4,7 +4,7 @@ ghost use mathlib.Core.Path.{_≡_};
 ghost use lib.ListN.{length};
 use bundles::is_taken;
 use bundles::number_of;
-use columns::State;
+use columns::Printed;
 use columns::column;
 use columns::cut;
 use columns::digest_column;
@@ -121,13 +121,13 @@ fn put_line(
 
 // Request `k` with its data, on a buffer of its room.
 fn run(
-    s: State,
+    s: Printed,
     k: u64,
     r: Request,
     input: &mut [u8],
     buffer: &mut [u8],
     text: &mut [u8],
-) -> State {
+) -> Printed {
     if !is_taken(input) {
         return cut(text, s.place);
     }
@@ -137,13 +137,13 @@ fn run(
 
 // The same with so much of both as the request says, where there is so much.
 fn sized(
-    s: State,
+    s: Printed,
     k: u64,
     r: Request,
     input: &mut [u8],
     buffer: &mut [u8],
     text: &mut [u8],
-) -> State {
+) -> Printed {
     let long = r.long;
     let room = r.room;
     if input.len() < long {
@@ -155,7 +155,7 @@ fn sized(
     run(s, k, r, &mut input[..long], &mut buffer[..room], text)
 }
 
-fn turn(s: State, k: u64, input: &mut [u8], buffer: &mut [u8], text: &mut [u8]) -> State {
+fn turn(s: Printed, k: u64, input: &mut [u8], buffer: &mut [u8], text: &mut [u8]) -> Printed {
     let h = take_head();
     let bytes = h.bytes;
     let r = request_of(bytes);
@@ -175,7 +175,7 @@ fn turn(s: State, k: u64, input: &mut [u8], buffer: &mut [u8], text: &mut [u8]) 
 }
 
 fn all(input: &mut [u8], buffer: &mut [u8], text: &mut [u8]) {
-    let mut s = State { place: 0, go: true };
+    let mut s = Printed { place: 0, go: true };
     let mut k = 0;
     while k < 1000000 && s.go {
         k += 1;

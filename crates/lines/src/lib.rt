@@ -26,7 +26,7 @@ pub fn last_line(text: &mut [u8], at: usize, word: &[u8], v: u64) -> usize {
 pub fn verdict(text: &mut [u8], at: usize, e: Entry, before: u64, offset: usize) -> usize {
     match e {
         Entry::End => last_line(text, at, b"end", before),
-        Entry::Bad => last_line(text, at, b"bad", offset as u64),
+        Entry::Bad(_) => last_line(text, at, b"bad", offset as u64),
         Entry::Transaction => last_line(text, at, b"bad", offset as u64),
         Entry::PowerCycle => last_line(text, at, b"bad", offset as u64),
         Entry::Fresh { part: _, n: _ } => last_line(text, at, b"bad", offset as u64),

@@ -206,7 +206,7 @@ pub fn put_data(
     if is_write(k) {
         return put_written(page, at, v, c, samples);
     }
-    if record::answer_number(a) == 0 {
+    if record::is_done(a) {
         return put_read(page, at, v, c, output);
     }
     at

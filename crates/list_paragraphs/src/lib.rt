@@ -185,7 +185,7 @@ pub fn put_played(
     let e = f.entry;
     match e {
         Entry::End => at,
-        Entry::Bad => at,
+        Entry::Bad(_) => at,
         Entry::Transaction => put_transaction_at(
             page,
             at,

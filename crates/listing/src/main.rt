@@ -1,7 +1,5 @@
 // A tape for people: a paragraph for each record, with what it asks for, its clocks, its data, what it changed,
 // and why it is answered so.
-//
-// It reads the file that its first argument names, or standard input.
 use list_endings::put_last;
 use list_paragraphs::put_head;
 use list_paragraphs::put_played;
@@ -42,8 +40,8 @@ fn advance(
     memory0: &mut [u8],
     area0: &mut [u8],
 ) -> Turn {
-    keep(memory0, memory, s.memory);
-    keep(area0, area, s.area);
+    keep(memory0, memory, s.socket.memory.0);
+    keep(area0, area, s.socket.area.0);
     session::advance(s, tape, memory, area, output)
 }
 
@@ -64,8 +62,8 @@ fn put_turn(
     let d = s.device;
     let o = t.outcome;
     let next = t.session;
-    let size = next.memory;
-    let edge = next.area;
+    let size = next.socket.memory.0;
+    let edge = next.socket.area.0;
     if memory.len() < size {
         return at;
     }
@@ -180,38 +178,14 @@ fn list(tape: &[u8]) {
     );
 }
 
-// The file that the first argument names, or standard input; below 0 where it cannot be opened, which is told.
-fn input() -> i32 {
-    if os::arg_count() < 2 {
-        return 0;
-    }
-    let mut path = io::buffer();
-    let n = os::arg(1, &mut path);
-    if os::errno() != 0 {
-        os::fail(b"argument");
-        return -1;
-    }
-    let fd = os::open_read(&path[..n]);
-    if fd < 0 {
-        os::fail(&path[..n]);
-    }
-    fd
-}
-
-// Whether there is a byte more.
-fn has_more(fd: i32) -> bool {
-    let mut one = [0u8; 1];
-    0 < io::read_full(fd, &mut one)
-}
-
 fn main() {
-    let fd = input();
+    let fd = inputs::opened();
     if fd < 0 {
         return;
     }
     let mut tape = io::large_buffer();
     let n = io::read_full(fd, &mut tape);
-    if has_more(fd) {
+    if inputs::has_more(fd) {
         io::write_all(
             1,
             b"The tape is over 65,536 bytes, and nothing of it is played.\n",

@@ -6,18 +6,16 @@ use Prim.Native.Nat.{ℕ, _/_, _≤_}
 use native.Mathlib.Nat.{div-le-self}
 use native.Mathlib.Omega.{arith}
 use mathlib.Core.Bool.{Bool, true, false, cond, not}
-use mathlib.Core.List.{List, [], _++_}
+use mathlib.Core.List.{List, []}
 use lib.Dec.{leb}
 use lib.ListN.{length, take, drop, length-take, length-drop}
 use borrow.Author.Tests.{le-ltb, leb-true}
 use Rattle.basis.specs.Truth.{untrue}
-use Rattle.units.specs.Units.{bytes, perByte}
+use Rattle.units.specs.Units.{bytes, perByte, fewer}
 use Rattle.opcodes.specs.declared.Kind.{Kind}
 use Rattle.opcodes.specs.declared.Kind.the-variants.{Unknown, WriteMemory}
 use Rattle.commands.specs.declared.plans.Body.{Body}
 use Rattle.commands.specs.declared.plans.Body.the-variants.{Nothing, FixedRead, AnyRead, FixedWrite, AnyWrite}
-use Rattle.counts.specs.declared.Counts.{Counts}
-use Rattle.counts.specs.Counts.{counted}
 use Rattle.record.specs.declared.Answer.{Answer}
 use Rattle.record.specs.declared.Answer.the-variants.{Done, Protected}
 use Rattle.record.specs.declared.Device.{Device}
@@ -25,14 +23,15 @@ use Rattle.record.specs.declared.Setting.{Setting}
 use Rattle.record.specs.Devices.{settingOf}
 use Rattle.record.specs.Latches.{latchMissing, afterBurst}
 use Rattle.record.specs.Changes.{volatileTo, settledOf}
+use Rattle.record.specs.Answers.{isDone}
 use Rattle.values.specs.States.{validOf}
 use Rattle.paper.specs.InForce.{unknown, asleepFor, stopped, decided, commandClocks, addressClocks, waitClocks, wiresFor, bodyFor}
-use Rattle.paper.specs.Reading.{after, many, kindRead, dataPart, Parts, partsOf, dataBytes}
+use Rattle.paper.specs.Reading.{after, many, kindRead, dataPart, Parts, partsOf, countsIn, dataBytes}
 use Rattle.paper.specs.Laws.{data-many}
 use Rattle.paper.specs.Storing.{Lent, Taken, nothingTaken, takeByte, takeAll}
 use Rattle.paper.specs.Driving.{drivenAt, along}
-use Rattle.paper.specs.Answers.{Facts, fewer, shortData, longRest, unarmed, reservedFor, shutData, rows, judge}
-use Rattle.paper.specs.Transaction.{World, sizedFor, factsOf, isDone, undriven, outputOf, over, clockedOf, transactOf}
+use Rattle.paper.specs.Answers.{Facts, shortData, longRest, unarmed, reservedFor, shutData, rows, judge}
+use Rattle.paper.specs.Transaction.{World, sizedFor, factsOf, undriven, around, outputOf, over, clockedOf, transactOf}
 use Rattle.theorems.specs.ExactOrder.{Clear, past}
 use Rattle.theorems.specs.Driven.{reads, along-zero}
 use Rattle.order.specs.Bursts.{Burst, storeFrom, store, allShut, landed}
@@ -40,17 +39,9 @@ use Rattle.order.specs.Bytes.{taken-so}
 use Rattle.order.specs.Episodes.{Call, Reply, aimed, MemoryWrite}
 
 -- ---- what a call says, by the setting alone
-abbrev pub countsIn : Parts → Counts
-countsIn p = counted (many (p .commandPart)) (many (p .addressPart)) (many (p .waitPart)) (many (p .dataPart)) (many (p .restPart))
-
 -- clocks that drive nothing
 abbrev pub silence : Parts → List ℕ
-silence p =
-    undriven (p .commandPart)
-    ++ (undriven (p .addressPart)
-    ++ (undriven (p .waitPart)
-    ++ (undriven (p .dataPart)
-    ++ undriven (p .restPart))))
+silence p = around p (undriven (p .dataPart))
 
 abbrev pub quietly : Setting → Call → Answer → Reply
 quietly s x v =
@@ -68,7 +59,7 @@ worldAt r d l = record { answer = r .answer; counts = r .counts; device = d; len
 pub quiet : (d : Device) (l : Lent) (p : Parts) (v : Answer) → reads (bodyFor (settingOf d) (p .kind) (p .address)) ≡ false → outputOf d l p v ≡ silence p
 unfolding outputOf
 quiet d l p v e =
-    ap (λ (ys : List ℕ). undriven (p .commandPart) ++ (undriven (p .addressPart) ++ (undriven (p .waitPart) ++ (ys ++ undriven (p .restPart)))))
+    ap (around p)
     (by (isDone v) (bodyFor (settingOf d) (p .kind) (p .address)) e)
   where
     by : (done : Bool) (b : Body) → reads b ≡ false → cond done (along (drivenAt b d (p .kind) (p .address) l) 0 (p .dataPart)) (undriven (p .dataPart)) ≡ undriven (p .dataPart)

@@ -18,7 +18,7 @@ use Rattle.basis.specs.Truth.{both-true, cond-same}
 use Rattle.units.specs.declared.Bytes.{Bytes}
 use Rattle.parts.specs.declared.Part.{Part}
 use Rattle.parts.specs.declared.Part.the-variants.{M, P}
-use Rattle.parts.specs.Parts.{knownPart, leastOf, mostOf}
+use Rattle.parts.specs.Parts.{knownPart, leastOf, mostOf, offered}
 use Rattle.opcodes.specs.declared.Writing.{Writing}
 use Rattle.opcodes.specs.declared.Kind.the-variants.{WriteMemory}
 use Rattle.record.specs.declared.Answer.{Answer}
@@ -33,7 +33,7 @@ use Rattle.order.specs.Steps.{runAll, Every, every-one, every-order, any
 use Rattle.order.specs.Bursts.{Burst, storeFrom, store, placesFrom, places, allShut, heldAt, landed}
 use Rattle.order.specs.BurstLaws.{bursts-commute, store-length, store-held, store-kept, store-shut, places-below}
 use Rattle.order.specs.Within.{write-below}
-use Rattle.order.specs.Episodes.{Chip, Call, Reply, called, leaves, says, after, replies, aimed, MemoryWrite, Enabling, Episode, onM, onP, burstOf, touched, Apart, runs, allReplies, Ready, AnyOrder}
+use Rattle.order.specs.Episodes.{Chip, Call, Reply, called, leaves, says, afterCalls, replies, aimed, MemoryWrite, Enabling, Episode, onM, onP, burstOf, touched, Apart, runs, allReplies, Ready, AnyOrder}
 use Rattle.order.specs.Calls.{quietly, relatch, worldAt, write-call}
 use Rattle.order.specs.Steady.{enable-call}
 
@@ -182,8 +182,8 @@ module _ (c : Chip) (r : Ready c) where
   risen-P latch p e = rw e
 
   -- AN EPISODE ACTS, and is told, by the setting and its samples alone
-  episode-acts : {e : List Call} → Episode c e → (m : Moving) → Fit m → after (chipAt c m) e ≡ chipAt c (act s e m)
-  unfolding after act
+  episode-acts : {e : List Call} → Episode c e → (m : Moving) → Fit m → afterCalls (chipAt c m) e ≡ chipAt c (act s e m)
+  unfolding afterCalls act
   episode-acts (onM {en} {wr} p q w) m f =
       ap (λ (z : World). leaves (called (leaves z) wr)) (enable-step m f en q)
       ∙ ap leaves (write-step true false (m .memory) (f .long) (enabled-valid m f p) wr w (up-is-free (s .part) (s .registers .cr4) (w .way)))
@@ -266,13 +266,12 @@ module _ (c : Chip) (r : Ready c) where
 
   -- ---- every touched place is in memory
   sizes : (9 ≤ s .n) × (length (c .lent .memory) ≡ 2 ^ s .n)
-  unfolding sizedFor
+  unfolding sizedFor offered
   sizes =
-      let h₁ = both-true (knownPart (d .part)) _ (r .sized) .1 in
-      let h₂ = both-true (leb (leastOf (s .part)) (s .n)) _ h₁ in
-      let h₃ = both-true (leb (s .n) (mostOf (s .part))) _ (h₂ .1) .1 in
-      let h₄ = both-true (eqb (length (c .lent .memory)) (2 ^ s .n)) _ h₃ .0 in
-      (le-trans (least (s .part)) (leb-true (leastOf (s .part)) (s .n) (h₂ .0)), eqb-true (length (c .lent .memory)) (2 ^ s .n) h₄)
+      let h₁ = both-true (offered (s .part) (s .n)) _ (both-true (knownPart (d .part)) _ (r .sized) .1) in
+      let h₂ = both-true (leb (leastOf (s .part)) (s .n)) (leb (s .n) (mostOf (s .part))) (h₁ .0) .0 in
+      let h₃ = both-true (eqb (length (c .lent .memory)) (2 ^ s .n)) _ (h₁ .1) .0 in
+      (le-trans (least (s .part)) (leb-true (leastOf (s .part)) (s .n) h₂), eqb-true (length (c .lent .memory)) (2 ^ s .n) h₃)
     where
       least : (p : Part) → 9 ≤ leastOf p
       least M = lit≤ tt
@@ -297,7 +296,7 @@ demand-3 c r {l₁} {l₂} order episodes apart =
     let f : Fit c r m = record { long = refl; valid = r .valid } in
     let episodes₂ : Every (Episode c) l₂ = every-order (Episode c) order episodes in
     let own : (e : List Call) → List·Mem e l₁ → (a : ℕ) → a < length (c .lent .memory)
-    → getD (after c e .lent .memory) a 0 ≡ heldAt (burstOf s e) a (getD (c .lent .memory) a 0) =
+    → getD (afterCalls c e .lent .memory) a 0 ≡ heldAt (burstOf s e) a (getD (c .lent .memory) a 0) =
     λ e k a i. ∥∥₁-elim k (ℕ-set _ _) (λ q. ap (λ (z : Chip). getD (z .lent .memory) a 0) (episode-acts c r (every-one (Episode c) q episodes) m f) ∙ act-held c r e m f a i) in
     let ran = run-acts c r l₁ episodes m f in
     record {

@@ -1,33 +1,22 @@
 -- A computed test that no two bursts of a list touch a place in common, for the examples.
 -- Assumes nothing.
-use mathlib.Core.Path.{_≡_, refl, ap, _∙_, sym, subst}
-use mathlib.Core.Bool.{Bool, true, false, not, _&&_, _||_}
+use mathlib.Core.Path.{_≡_, ap, _∙_, sym, subst}
+use mathlib.Core.Bool.{Bool, true, not, _&&_}
 use mathlib.Core.Logic.{∥∥₁-elim}
 use mathlib.Core.HLevel.{Π-prop, ⊥-prop}
 use mathlib.Core.List.{List, [], _∷_, List·Mem, List·Memᴰ, List·Memᴰ·head, List·Memᴰ·tail, Pairwise, Pairwise·nil, Pairwise·cons}
 use Prim.Native.Nat.{ℕ}
 use lib.Dec.{eqb}
 use borrow.Author.Tests.{eq-eqb}
-use Rattle.basis.specs.Truth.{both-true, untrue}
+use Rattle.basis.specs.Truth.{both-true, untrue, or-left, or-right}
+use Rattle.basis.specs.Rows.{among}
 use Rattle.record.specs.declared.Setting.{Setting}
 use Rattle.order.specs.Episodes.{Call, touched, Apart}
-
--- a is one of them
-abbrev among : ℕ → List ℕ → Bool
-among a [] = false
-among a (x ∷ xs) = eqb a x || among a xs
 
 -- none of the first is one of the second
 abbrev pub disjoint : List ℕ → List ℕ → Bool
 disjoint [] ys = true
 disjoint (x ∷ xs) ys = not (among x ys) && disjoint xs ys
-
-or-right : (a b : Bool) → b ≡ true → (a || b) ≡ true
-or-right true b e = refl
-or-right false b e = e
-
-or-left : (a b : Bool) → a ≡ true → (a || b) ≡ true
-or-left a b e = rw e
 
 is-among : {a : ℕ} {xs : List ℕ} → List·Memᴰ a xs → among a xs ≡ true
 is-among {a} (List·Memᴰ·head {x} {xs} e) = or-left (eqb a x) (among a xs) (eq-eqb a x e)

@@ -52,9 +52,9 @@ abbrev pub says : World → Reply
 says w = record { answer = w .answer; counts = w .counts; output = w .output }
 
 -- the chip after calls, and what each of them gave back
-unfoldable pub after : Chip → List Call → Chip
-after c [] = c
-after c (x ∷ xs) = after (leaves (called c x)) xs
+unfoldable pub afterCalls : Chip → List Call → Chip
+afterCalls c [] = c
+afterCalls c (x ∷ xs) = afterCalls (leaves (called c x)) xs
 
 unfoldable pub replies : Chip → List Call → List Reply
 replies c [] = []
@@ -102,11 +102,11 @@ Apart s e f = (a : ℕ) → List·Mem a (touched s e) → List·Mem a (touched s
 
 -- ---- a list of episodes
 abbrev pub runs : Chip → List (List Call) → Chip
-runs c l = runAll (λ e k. after k e) c l
+runs c l = runAll (λ e k. afterCalls k e) c l
 
 unfoldable pub allReplies : Chip → List (List Call) → List (List Reply)
 allReplies c [] = []
-allReplies c (e ∷ l) = replies c e ∷ allReplies (after c e) l
+allReplies c (e ∷ l) = replies c e ∷ allReplies (afterCalls c e) l
 
 -- an awake device in a valid state, and what is lent has its size
 pub record Ready (c : Chip) : Type 0 where
@@ -123,9 +123,9 @@ pub record AnyOrder (c : Chip) (l₁ l₂ : List (List Call)) : Type 0 where
   pub second : allReplies c l₂ ≡ map (replies c) l₂
   -- a touched byte holds what its own episode alone stores there: the byte sent last, or the old one where protected
   pub alone : (e : List Call) → List·Mem e l₁ → (a : ℕ) → List·Mem a (touched (settingOf (c .device)) e)
-      → getD (runs c l₁ .lent .memory) a 0 ≡ getD (after c e .lent .memory) a 0
+      → getD (runs c l₁ .lent .memory) a 0 ≡ getD (afterCalls c e .lent .memory) a 0
   pub held : (e : List Call) → List·Mem e l₁ → (a : ℕ) → List·Mem a (touched (settingOf (c .device)) e)
-      → getD (after c e .lent .memory) a 0 ≡ heldAt (burstOf (settingOf (c .device)) e) a (getD (c .lent .memory) a 0)
+      → getD (afterCalls c e .lent .memory) a 0 ≡ heldAt (burstOf (settingOf (c .device)) e) a (getD (c .lent .memory) a 0)
   -- all other bytes are old: those of memory that no episode touches, and the area
   pub old : (a : ℕ) → ((e : List Call) → List·Mem e l₁ → List·Mem a (touched (settingOf (c .device)) e) → ⊥)
       → getD (runs c l₁ .lent .memory) a 0 ≡ getD (c .lent .memory) a 0

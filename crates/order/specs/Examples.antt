@@ -3,7 +3,7 @@
 -- shows.
 -- Assumes nothing.
 use mathlib.Core.Path.{_≡_, refl}
-use Prim.Native.Nat.{ℕ, _*_}
+use Prim.Native.Nat.{ℕ}
 use mathlib.Core.Bool.{Bool, true, not, _&&_}
 use mathlib.Core.List.{List, [], _∷_, _++_, map, List·Permᴰ·cons, List·Permᴰ·swap, List·Permᴰ·trans}
 use lib.Dec.{T, eqb, lit≤}
@@ -11,8 +11,9 @@ use lib.ListN.{length, getD, replicate}
 use Rattle.basis.specs.Examples.{all, same}
 use Rattle.units.specs.declared.Wires.{Wires}
 use Rattle.units.specs.declared.Wires.the-variants.{One, Four}
-use Rattle.units.specs.Units.{perByte}
-use Rattle.wires.specs.Bits.{shiftOf, gatherFrom, spread, groupOf}
+use Rattle.units.specs.Units.{clocksOf, byteClocks}
+use Rattle.wires.specs.Bits.{shiftOf, gatherFrom, spelled, spread, groupOf}
+use Rattle.parts.specs.Parts.{offered}
 use Rattle.opcodes.specs.declared.Writing.the-variants as Writes
 use Rattle.opcodes.specs.Kinds.{entryOf}
 use Rattle.commands.specs.Registers.{mappedOf}
@@ -25,7 +26,7 @@ use Rattle.values.specs.Values.{statusAllowed, cr3Allowed, cr4Allowed, configur
 use Rattle.values.specs.States.{modeAllowed, zeros, registersM, registersP, volatileM, volatileP, identityM, identityP, validOf}
 use Rattle.places.specs.Places.{readSpan, writeSpan, placeIn}
 use Rattle.places.specs.Protection.{shutMemory, sectionShut, protectedOf, areaProtectedOf}
-use Rattle.paper.specs.InForce.{asleepFor, refusedAt, stopped, decided, commandClocks, wiresFor, addressClocks, waitClocks, bodyFor}
+use Rattle.paper.specs.InForce.{addressBytes, asleepFor, refusedAt, stopped, decided, commandClocks, wiresFor, addressClocks, waitClocks, bodyFor}
 use Rattle.paper.specs.Reading.{kindRead, addressRead, partsOf, bytesIn, dataBytes}
 use Rattle.paper.specs.Storing.{protectedAt, putAt, takeAll}
 use Rattle.paper.specs.Driving.{byteRead, levelAt, along}
@@ -34,7 +35,7 @@ use Rattle.paper.specs.Building.{spreadAll}
 use Rattle.paper.specs.Transaction.{sizedFor, roomFor, sampled, factsOf, outputOf, over, clockedOf, transactOf}
 use Rattle.order.specs.Steps.{Every}
 use Rattle.order.specs.Bursts.{placesFrom}
-use Rattle.order.specs.Episodes.{Chip, Call, Reply, after, replies, aimed, Enabling, Episode, onM, onP, touched, runs, Ready, AnyOrder}
+use Rattle.order.specs.Episodes.{Chip, Call, Reply, afterCalls, replies, aimed, Enabling, Episode, onM, onP, touched, runs, Ready, AnyOrder}
 use Rattle.order.specs.Demand3.{demand-3}
 use Rattle.order.specs.Disjoint.{allDisjoint, pairwise-apart}
 
@@ -47,10 +48,10 @@ sends xs = record { samples = xs; room = blank (length xs) }
 
 -- a memory write on so many wires, and a write enable on one
 abbrev writes : Wires → ℕ → ℕ → List ℕ → Call
-writes w opcode address bs = sends (spread w (perByte w) opcode ++ (spread w (3 * perByte w) address ++ spreadAll w bs))
+writes w opcode address bs = sends (spread w (byteClocks w) opcode ++ (spread w (clocksOf w addressBytes) address ++ spreadAll w bs))
 
 abbrev enables : Call
-enables = sends (spread One 8 0x06)
+enables = sends (spelled One 8 0x06)
 
 -- ---- part M, armed by accident, its top 16 bytes protected
 abbrev chipM : Chip
@@ -85,19 +86,19 @@ listP = lapping ∷ folded ∷ []
 
 -- ---- the premises hold
 ready-M : Ready chipM
-unfolding shiftOf gatherFrom spread groupOf spreadAll entryOf mappedOf statusAllowed cr3Allowed cr4Allowed configurationsAllowed modeRegisterAllowed modeAllowed zeros registersM registersP volatileM volatileP identityM identityP validOf readSpan writeSpan placeIn shutMemory sectionShut protectedOf areaProtectedOf asleepFor refusedAt stopped decided commandClocks wiresFor addressClocks waitClocks bodyFor kindRead addressRead partsOf bytesIn dataBytes protectedAt putAt takeAll byteRead levelAt along judge unarmed latchMissing sizedFor roomFor sampled factsOf outputOf over clockedOf transactOf
+unfolding shiftOf gatherFrom spelled groupOf spreadAll entryOf mappedOf statusAllowed cr3Allowed cr4Allowed configurationsAllowed modeRegisterAllowed modeAllowed zeros registersM registersP volatileM volatileP identityM identityP validOf readSpan writeSpan placeIn shutMemory sectionShut protectedOf areaProtectedOf asleepFor refusedAt stopped decided commandClocks wiresFor addressClocks waitClocks bodyFor kindRead addressRead partsOf bytesIn dataBytes protectedAt putAt takeAll byteRead levelAt along judge unarmed latchMissing offered sizedFor roomFor sampled factsOf outputOf over clockedOf transactOf
 ready-M = record { sized = refl; valid = refl; awake = refl }
 
 ready-P : Ready chipP
-unfolding shiftOf gatherFrom spread groupOf spreadAll entryOf mappedOf statusAllowed cr3Allowed cr4Allowed configurationsAllowed modeRegisterAllowed modeAllowed zeros registersM registersP volatileM volatileP identityM identityP validOf readSpan writeSpan placeIn shutMemory sectionShut protectedOf areaProtectedOf asleepFor refusedAt stopped decided commandClocks wiresFor addressClocks waitClocks bodyFor kindRead addressRead partsOf bytesIn dataBytes protectedAt putAt takeAll byteRead levelAt along judge unarmed latchMissing sizedFor roomFor sampled factsOf outputOf over clockedOf transactOf
+unfolding shiftOf gatherFrom spelled groupOf spreadAll entryOf mappedOf statusAllowed cr3Allowed cr4Allowed configurationsAllowed modeRegisterAllowed modeAllowed zeros registersM registersP volatileM volatileP identityM identityP validOf readSpan writeSpan placeIn shutMemory sectionShut protectedOf areaProtectedOf asleepFor refusedAt stopped decided commandClocks wiresFor addressClocks waitClocks bodyFor kindRead addressRead partsOf bytesIn dataBytes protectedAt putAt takeAll byteRead levelAt along judge unarmed latchMissing offered sizedFor roomFor sampled factsOf outputOf over clockedOf transactOf
 ready-P = record { sized = refl; valid = refl; awake = refl }
 
 enabling : Enabling chipM enables
-unfolding shiftOf gatherFrom spread groupOf spreadAll entryOf mappedOf statusAllowed cr3Allowed cr4Allowed configurationsAllowed modeRegisterAllowed modeAllowed zeros registersM registersP volatileM volatileP identityM identityP validOf readSpan writeSpan placeIn shutMemory sectionShut protectedOf areaProtectedOf asleepFor refusedAt stopped decided commandClocks wiresFor addressClocks waitClocks bodyFor kindRead addressRead partsOf bytesIn dataBytes protectedAt putAt takeAll byteRead levelAt along judge unarmed latchMissing sizedFor roomFor sampled factsOf outputOf over clockedOf transactOf
+unfolding shiftOf gatherFrom spelled groupOf spreadAll entryOf mappedOf statusAllowed cr3Allowed cr4Allowed configurationsAllowed modeRegisterAllowed modeAllowed zeros registersM registersP volatileM volatileP identityM identityP validOf readSpan writeSpan placeIn shutMemory sectionShut protectedOf areaProtectedOf asleepFor refusedAt stopped decided commandClocks wiresFor addressClocks waitClocks bodyFor kindRead addressRead partsOf bytesIn dataBytes protectedAt putAt takeAll byteRead levelAt along judge unarmed latchMissing offered sizedFor roomFor sampled factsOf outputOf over clockedOf transactOf
 enabling = record { kind = refl; done = refl }
 
 episodes-M : Every (Episode chipM) listM
-unfolding aimed shiftOf gatherFrom spread groupOf spreadAll entryOf mappedOf statusAllowed cr3Allowed cr4Allowed configurationsAllowed modeRegisterAllowed modeAllowed zeros registersM registersP volatileM volatileP identityM identityP validOf readSpan writeSpan placeIn shutMemory sectionShut protectedOf areaProtectedOf asleepFor refusedAt stopped decided commandClocks wiresFor addressClocks waitClocks bodyFor kindRead addressRead partsOf bytesIn dataBytes protectedAt putAt takeAll byteRead levelAt along judge unarmed latchMissing sizedFor roomFor sampled factsOf outputOf over clockedOf transactOf
+unfolding aimed shiftOf gatherFrom spelled groupOf spreadAll entryOf mappedOf statusAllowed cr3Allowed cr4Allowed configurationsAllowed modeRegisterAllowed modeAllowed zeros registersM registersP volatileM volatileP identityM identityP validOf readSpan writeSpan placeIn shutMemory sectionShut protectedOf areaProtectedOf asleepFor refusedAt stopped decided commandClocks wiresFor addressClocks waitClocks bodyFor kindRead addressRead partsOf bytesIn dataBytes protectedAt putAt takeAll byteRead levelAt along judge unarmed latchMissing offered sizedFor roomFor sampled factsOf outputOf over clockedOf transactOf
 episodes-M = (
   onM refl enabling (record { room = refl; levels = refl; way = Writes.Plain; kind = refl; reach = refl; some = lit≤ tt }),
   (
@@ -110,7 +111,7 @@ episodes-M = (
 )
 
 episodes-P : Every (Episode chipP) listP
-unfolding aimed shiftOf gatherFrom spread groupOf spreadAll entryOf mappedOf statusAllowed cr3Allowed cr4Allowed configurationsAllowed modeRegisterAllowed modeAllowed zeros registersM registersP volatileM volatileP identityM identityP validOf readSpan writeSpan placeIn shutMemory sectionShut protectedOf areaProtectedOf asleepFor refusedAt stopped decided commandClocks wiresFor addressClocks waitClocks bodyFor kindRead addressRead partsOf bytesIn dataBytes protectedAt putAt takeAll byteRead levelAt along judge unarmed latchMissing sizedFor roomFor sampled factsOf outputOf over clockedOf transactOf
+unfolding aimed shiftOf gatherFrom spelled groupOf spreadAll entryOf mappedOf statusAllowed cr3Allowed cr4Allowed configurationsAllowed modeRegisterAllowed modeAllowed zeros registersM registersP volatileM volatileP identityM identityP validOf readSpan writeSpan placeIn shutMemory sectionShut protectedOf areaProtectedOf asleepFor refusedAt stopped decided commandClocks wiresFor addressClocks waitClocks bodyFor kindRead addressRead partsOf bytesIn dataBytes protectedAt putAt takeAll byteRead levelAt along judge unarmed latchMissing offered sizedFor roomFor sampled factsOf outputOf over clockedOf transactOf
 episodes-P = (
   onP refl (record { room = refl; levels = refl; way = Writes.Plain; kind = refl; reach = refl; some = lit≤ tt }),
   (
@@ -120,11 +121,11 @@ episodes-P = (
 )
 
 apart-M : allDisjoint (settingOf (chipM .device)) listM ≡ true
-unfolding aimed placesFrom shiftOf gatherFrom spread groupOf spreadAll entryOf mappedOf statusAllowed cr3Allowed cr4Allowed configurationsAllowed modeRegisterAllowed modeAllowed zeros registersM registersP volatileM volatileP identityM identityP validOf readSpan writeSpan placeIn shutMemory sectionShut protectedOf areaProtectedOf asleepFor refusedAt stopped decided commandClocks wiresFor addressClocks waitClocks bodyFor kindRead addressRead partsOf bytesIn dataBytes protectedAt putAt takeAll byteRead levelAt along judge unarmed latchMissing sizedFor roomFor sampled factsOf outputOf over clockedOf transactOf
+unfolding aimed placesFrom shiftOf gatherFrom spelled groupOf spreadAll entryOf mappedOf statusAllowed cr3Allowed cr4Allowed configurationsAllowed modeRegisterAllowed modeAllowed zeros registersM registersP volatileM volatileP identityM identityP validOf readSpan writeSpan placeIn shutMemory sectionShut protectedOf areaProtectedOf asleepFor refusedAt stopped decided commandClocks wiresFor addressClocks waitClocks bodyFor kindRead addressRead partsOf bytesIn dataBytes protectedAt putAt takeAll byteRead levelAt along judge unarmed latchMissing offered sizedFor roomFor sampled factsOf outputOf over clockedOf transactOf
 apart-M = refl
 
 apart-P : allDisjoint (settingOf (chipP .device)) listP ≡ true
-unfolding aimed placesFrom shiftOf gatherFrom spread groupOf spreadAll entryOf mappedOf statusAllowed cr3Allowed cr4Allowed configurationsAllowed modeRegisterAllowed modeAllowed zeros registersM registersP volatileM volatileP identityM identityP validOf readSpan writeSpan placeIn shutMemory sectionShut protectedOf areaProtectedOf asleepFor refusedAt stopped decided commandClocks wiresFor addressClocks waitClocks bodyFor kindRead addressRead partsOf bytesIn dataBytes protectedAt putAt takeAll byteRead levelAt along judge unarmed latchMissing sizedFor roomFor sampled factsOf outputOf over clockedOf transactOf
+unfolding aimed placesFrom shiftOf gatherFrom spelled groupOf spreadAll entryOf mappedOf statusAllowed cr3Allowed cr4Allowed configurationsAllowed modeRegisterAllowed modeAllowed zeros registersM registersP volatileM volatileP identityM identityP validOf readSpan writeSpan placeIn shutMemory sectionShut protectedOf areaProtectedOf asleepFor refusedAt stopped decided commandClocks wiresFor addressClocks waitClocks bodyFor kindRead addressRead partsOf bytesIn dataBytes protectedAt putAt takeAll byteRead levelAt along judge unarmed latchMissing offered sizedFor roomFor sampled factsOf outputOf over clockedOf transactOf
 apart-P = refl
 
 -- SO DEMAND 3 SAYS SOMETHING OF THEM: for part M the list turned round, for part P the two exchanged
@@ -163,5 +164,5 @@ examples =
     ∷ []
 
 pub examples-hold : T (all examples)
-unfolding examples aimed placesFrom after replies shiftOf gatherFrom spread groupOf spreadAll entryOf mappedOf statusAllowed cr3Allowed cr4Allowed configurationsAllowed modeRegisterAllowed modeAllowed zeros registersM registersP volatileM volatileP identityM identityP validOf readSpan writeSpan placeIn shutMemory sectionShut protectedOf areaProtectedOf asleepFor refusedAt stopped decided commandClocks wiresFor addressClocks waitClocks bodyFor kindRead addressRead partsOf bytesIn dataBytes protectedAt putAt takeAll byteRead levelAt along judge unarmed latchMissing sizedFor roomFor sampled factsOf outputOf over clockedOf transactOf
+unfolding examples aimed placesFrom afterCalls replies shiftOf gatherFrom spelled groupOf spreadAll entryOf mappedOf statusAllowed cr3Allowed cr4Allowed configurationsAllowed modeRegisterAllowed modeAllowed zeros registersM registersP volatileM volatileP identityM identityP validOf readSpan writeSpan placeIn shutMemory sectionShut protectedOf areaProtectedOf asleepFor refusedAt stopped decided commandClocks wiresFor addressClocks waitClocks bodyFor kindRead addressRead partsOf bytesIn dataBytes protectedAt putAt takeAll byteRead levelAt along judge unarmed latchMissing offered sizedFor roomFor sampled factsOf outputOf over clockedOf transactOf
 examples-hold = tt

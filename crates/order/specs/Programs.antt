@@ -11,7 +11,7 @@ use Rattle.judging.specs.declared.Outcome.{Outcome}
 use Rattle.bursts.specs.Lends.{lends}
 use Rattle.parting.specs.Parting.{worldOf}
 use Rattle.order.specs.Steps.{Every}
-use Rattle.order.specs.Episodes.{Chip, Call, Reply, called, leaves, says, after, replies, Episode, Apart, runs, allReplies, Ready}
+use Rattle.order.specs.Episodes.{Chip, Call, Reply, called, leaves, says, afterCalls, replies, Episode, Apart, runs, allReplies, Ready, AnyOrder}
 use Rattle.order.specs.Demand3.{demand-3}
 
 -- calls that were made, what they gave back, and where they ended: each call keeps to the contract of `transact`
@@ -23,15 +23,15 @@ pub data Made : Chip → List Call → List Reply → Chip → Type 0 where
       → Made c (x ∷ xs) (record { answer = o .answer; counts = o .counts; output = output } ∷ rs) c′
 
 -- the lists of a list, one after the other
-unfoldable pub together : {A : Type 0} → List (List A) → List A
-together [] = []
-together (e ∷ l) = e ++ together l
+unfoldable pub joined : {A : Type 0} → List (List A) → List A
+joined [] = []
+joined (e ∷ l) = e ++ joined l
 
 -- the contract leaves no choice
-made-ends : {c c′ : Chip} {xs : List Call} {rs : List Reply} → Made c xs rs c′ → after c xs ≡ c′
-unfolding after
+made-ends : {c c′ : Chip} {xs : List Call} {rs : List Reply} → Made c xs rs c′ → afterCalls c xs ≡ c′
+unfolding afterCalls
 made-ends ended = refl
-made-ends (call {c} {c′} {x} {xs} {rs} o memory area output e m) = ap (λ (w : World). after (leaves w) xs) (sym e) ∙ made-ends m
+made-ends (call {c} {c′} {x} {xs} {rs} o memory area output e m) = ap (λ (w : World). afterCalls (leaves w) xs) (sym e) ∙ made-ends m
 
 made-says : {c c′ : Chip} {xs : List Call} {rs : List Reply} → Made c xs rs c′ → replies c xs ≡ rs
 unfolding replies
@@ -40,38 +40,43 @@ made-says (call {c} {c′} {x} {xs} {rs} o memory area output e m) =
     ap (λ (w : World). says w ∷ replies (leaves w) xs) (sym e) ∙ ap (λ (l : List Reply). says (worldOf o memory area output) ∷ l) (made-says m)
 
 -- episodes one after the other are their calls one after the other
-after-append : (c : Chip) (xs ys : List Call) → after c (xs ++ ys) ≡ after (after c xs) ys
-unfolding after
+after-append : (c : Chip) (xs ys : List Call) → afterCalls c (xs ++ ys) ≡ afterCalls (afterCalls c xs) ys
+unfolding afterCalls
 after-append c [] ys = refl
 after-append c (x ∷ xs) ys = after-append (leaves (called c x)) xs ys
 
-replies-append : (c : Chip) (xs ys : List Call) → replies c (xs ++ ys) ≡ replies c xs ++ replies (after c xs) ys
-unfolding after replies
+replies-append : (c : Chip) (xs ys : List Call) → replies c (xs ++ ys) ≡ replies c xs ++ replies (afterCalls c xs) ys
+unfolding afterCalls replies
 replies-append c [] ys = refl
 replies-append c (x ∷ xs) ys = ap (λ (l : List Reply). says (called c x) ∷ l) (replies-append (leaves (called c x)) xs ys)
 
-after-together : (c : Chip) (l : List (List Call)) → after c (together l) ≡ runs c l
-unfolding together after
+after-together : (c : Chip) (l : List (List Call)) → afterCalls c (joined l) ≡ runs c l
+unfolding joined afterCalls
 after-together c [] = refl
-after-together c (e ∷ l) = after-append c e (together l) ∙ after-together (after c e) l
+after-together c (e ∷ l) = after-append c e (joined l) ∙ after-together (afterCalls c e) l
 
-replies-together : (c : Chip) (l : List (List Call)) → replies c (together l) ≡ together (allReplies c l)
-unfolding together replies allReplies
+replies-together : (c : Chip) (l : List (List Call)) → replies c (joined l) ≡ joined (allReplies c l)
+unfolding joined replies allReplies
 replies-together c [] = refl
-replies-together c (e ∷ l) = replies-append c e (together l) ∙ ap (λ (rs : List Reply). replies c e ++ rs) (replies-together (after c e) l)
+replies-together c (e ∷ l) = replies-append c e (joined l) ∙ ap (λ (rs : List Reply). replies c e ++ rs) (replies-together (afterCalls c e) l)
 
 -- what two programs that make the calls of the same episodes have in common
 pub record Agree (c : Chip) (l₁ l₂ : List (List Call)) (rs₁ rs₂ : List Reply) (c₁ c₂ : Chip) : Type 0 where
   pub same : c₁ ≡ c₂
-  pub first : rs₁ ≡ together (map (replies c) l₁)
-  pub second : rs₂ ≡ together (map (replies c) l₂)
+  -- where they end is where the paper's calls end, of which demand 3 says what each byte holds
+  pub ends : c₁ ≡ runs c l₁
+  pub any : AnyOrder c l₁ l₂
+  pub first : rs₁ ≡ joined (map (replies c) l₁)
+  pub second : rs₂ ≡ joined (map (replies c) l₂)
 
 pub any-program : (c : Chip) → Ready c → {l₁ l₂ : List (List Call)} → List·Permᴰ l₁ l₂ → Every (Episode c) l₁ → Pairwise (Apart (settingOf (c .device))) l₁
-    → {rs₁ rs₂ : List Reply} {c₁ c₂ : Chip} → Made c (together l₁) rs₁ c₁ → Made c (together l₂) rs₂ c₂ → Agree c l₁ l₂ rs₁ rs₂ c₁ c₂
+    → {rs₁ rs₂ : List Reply} {c₁ c₂ : Chip} → Made c (joined l₁) rs₁ c₁ → Made c (joined l₂) rs₂ c₂ → Agree c l₁ l₂ rs₁ rs₂ c₁ c₂
 any-program c r {l₁} {l₂} order episodes apart m₁ m₂ =
     let any = demand-3 c r order episodes apart in
     record {
+      ends = sym (made-ends m₁) ∙ after-together c l₁;
+      any = any;
       same = sym (made-ends m₁) ∙ after-together c l₁ ∙ any .same ∙ sym (after-together c l₂) ∙ made-ends m₂;
-      first = sym (made-says m₁) ∙ replies-together c l₁ ∙ ap together (any .first);
-      second = sym (made-says m₂) ∙ replies-together c l₂ ∙ ap together (any .second);
+      first = sym (made-says m₁) ∙ replies-together c l₁ ∙ ap joined (any .first);
+      second = sym (made-says m₂) ∙ replies-together c l₂ ∙ ap joined (any .second);
     }

@@ -18,14 +18,15 @@ use Rattle.record.specs.declared.Setting.{Setting}
 use Rattle.record.specs.Devices.{settingOf}
 use Rattle.record.specs.Latches.{latchNeeded, latchMissing}
 use Rattle.record.specs.Changes.{settledOf}
+use Rattle.record.specs.Answers.{isDone, refuses}
 use Rattle.values.specs.States.{validOf}
 use Rattle.paper.specs.InForce.{decided, bodyFor}
 use Rattle.paper.specs.Reading.{Parts, partsOf}
 use Rattle.paper.specs.Storing.{Lent, Taken, takeByte, takeAll}
 use Rattle.paper.specs.Answers.{resetting, unarmed, reservedFor, shutData, judge}
-use Rattle.paper.specs.Transaction.{World, sizedFor, roomFor, factsOf, isDone, clockedOf, transactOf}
+use Rattle.paper.specs.Transaction.{World, sizedFor, roomFor, factsOf, clockedOf, transactOf}
 use Rattle.theorems.specs.ExactOrder.{table, exact-order, Clear, no-row, clear-rows}
-use Rattle.theorems.specs.Refused.{refuses, not-refused}
+use Rattle.theorems.specs.Refused.{not-refused}
 use Rattle.theorems.specs.Driven.{reads}
 use Rattle.theorems.specs.Built.{writes}
 use Rattle.order.specs.Episodes.{Call}

@@ -4,7 +4,7 @@ ghost use mathlib.Core.Path.{_≡_};
 ghost use mathlib.Core.Bool.{_||_};
 ghost use mathlib.Core.List.{[]};
 ghost use lib.Dec.{ltb};
-ghost use Rattle.paper.specs.Building.{asked, addressed, waitsByRegister, beyond, overlong, tooFew, tooMany, kindAsked, bodyAsked};
+ghost use Rattle.paper.specs.Building.{asked, addressed, beyond, overlong, tooFew, tooMany, kindAsked, bodyAsked};
 ghost use Rattle.orders.specs.Orders.{orderAs};
 use commands::plans::Address;
 use commands::plans::Body;
@@ -83,26 +83,6 @@ fn is_addressed(a: Address) -> bool
     }
 }
 
-// Whether its wait stands in configuration 2.
-fn waits_by_register(k: Kind) -> bool
-    ensures { λ r. ⌜ r ≡ waitsByRegister k ⌝ }
-{
-    match k {
-        Kind::Unknown => false,
-        Kind::Plain(_) => false,
-        Kind::ReadRegister(_) => false,
-        Kind::ReadAny => false,
-        Kind::ReadMode => false,
-        Kind::ReadIdentity => false,
-        Kind::WriteRegister(_) => false,
-        Kind::WriteMode => false,
-        Kind::ReadMemory(_) => false,
-        Kind::WriteMemory(_) => false,
-        Kind::ReadArea => true,
-        Kind::WriteArea => false,
-    }
-}
-
 // 7: an address that 24 bits do not hold, where there is one.
 pub fn is_beyond(o: Order, k: Kind) -> bool
     ensures { λ r. ⌜ r ≡ beyond k (o .address) ⌝ }
@@ -118,7 +98,7 @@ pub fn is_beyond(o: Order, k: Kind) -> bool
 pub fn is_overlong_wait(o: Order, k: Kind) -> bool
     ensures { λ r. ⌜ r ≡ overlong k (o .cr2) ⌝ }
 {
-    if !waits_by_register(k) {
+    if !commands::plans::waits_by_register(k) {
         return false;
     }
     0x0F < o.cr2

@@ -8,7 +8,7 @@ use orders::Order;
 use parts::Part;
 use places::memory_size;
 use record::Device;
-use record::answer_number;
+use record::is_done;
 use record::mode_wires;
 use text::flush;
 use text::is_same;
@@ -177,7 +177,7 @@ fn clocked(
 ) -> bool {
     let r = device::transact(d, memory, area, samples, output);
     let answer = r.answer;
-    answer_number(answer) == 0
+    is_done(answer)
 }
 
 // So many of the same, from the same record. Returns how many were answered 0.
@@ -204,7 +204,7 @@ fn clocked_all(
 fn gathered(wires: u8, driven: &[u8], bytes: &mut [u8]) -> bool {
     let g = host::gather(wires, driven, bytes);
     let answer = g.answer;
-    answer_number(answer) == 0
+    is_done(answer)
 }
 
 fn gathered_all(wires: u8, repeats: u32, driven: &[u8], bytes: &mut [u8]) -> u32 {

@@ -3,11 +3,9 @@
 use Prim.Native.Nat.{ℕ}
 use mathlib.Core.Bool.{Bool, true, false, cond, not, _&&_}
 use mathlib.Core.List.{List, [], _∷_}
-use lib.Dec.{ltb}
 use Rattle.units.specs.declared.Clocks.{Clocks}
 use Rattle.units.specs.declared.Wires.{Wires}
-use Rattle.units.specs.declared.Bytes.{Bytes}
-use Rattle.units.specs.Units.{bytes, clocks, wholeOf}
+use Rattle.units.specs.Units.{bytes, clocks, fewer, fewerBytes, wholeOf}
 use Rattle.opcodes.specs.declared.Control.{Control}
 use Rattle.opcodes.specs.declared.Control.the-variants as Controls
 use Rattle.opcodes.specs.declared.Register.the-variants.{ModeRegister}
@@ -33,13 +31,6 @@ pub record Facts : Type 0 where
   pub address : ℕ
   pub counts : Counts
   pub taken : Taken
-
--- so many clocks are fewer than those, and so many bytes
-abbrev pub fewer : Clocks → Clocks → Bool
-fewer c d = ltb (c .0) (d .0)
-
-abbrev pub fewerBytes : Bytes → Bytes → Bool
-fewerBytes b c = ltb (b .0) (c .0)
 
 -- 4, for want of data: a burst has brought no byte, or a register write not all of its own. Reads never want data.
 abbrev pub shortData : Body → Wires → Clocks → Bool

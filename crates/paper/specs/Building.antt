@@ -7,7 +7,7 @@ use lib.ListN.{length, replicate}
 use Rattle.units.specs.declared.Clocks.{Clocks}
 use Rattle.units.specs.declared.Bytes.{Bytes}
 use Rattle.units.specs.declared.Wires.{Wires}
-use Rattle.units.specs.Units.{clocks, bytes, perByte, clocksOf}
+use Rattle.units.specs.Units.{clocks, bytes, clocksOf, byteClocks, fewer, fewerBytes, longest}
 use Rattle.wires.specs.Bits.{spread}
 use Rattle.parts.specs.Parts.{partOf, knownPart}
 use Rattle.opcodes.specs.declared.Kind.{Kind}
@@ -17,15 +17,16 @@ use Rattle.commands.specs.declared.plans.Address.{Address}
 use Rattle.commands.specs.declared.plans.Address.the-variants.{Absent, InMemory, InArea, InMap, LowNibbleZero, Ignored}
 use Rattle.commands.specs.declared.plans.Body.{Body}
 use Rattle.commands.specs.declared.plans.Body.the-variants.{Nothing, FixedRead, AnyRead, FixedWrite, AnyWrite}
-use Rattle.commands.specs.Plans.{laterWires, addressOf, waitOf, bodyOf}
+use Rattle.commands.specs.Plans.{laterWires, addressOf, waitsByRegister, waitOf, bodyOf}
 use Rattle.record.specs.declared.Answer.{Answer}
 use Rattle.record.specs.declared.Answer.the-variants.{Size, Short, Unknown, Address as Refused, Reserved, Long}
 use Rattle.record.specs.Devices.{modeWires}
+use Rattle.record.specs.Answers.{isDone}
 use Rattle.values.specs.States.{modeAllowed}
 use Rattle.paper.specs.InForce.{addressLength, unknown}
-use Rattle.paper.specs.Reading.{longest, many}
-use Rattle.paper.specs.Answers.{firstOf, fewer, fewerBytes}
-use Rattle.paper.specs.Transaction.{isDone, over}
+use Rattle.paper.specs.Reading.{many}
+use Rattle.paper.specs.Answers.{firstOf}
+use Rattle.paper.specs.Transaction.{over}
 
 -- what the host is asked to build: a read has a number of bytes, a write has its bytes
 pub record Order : Type 0 where
@@ -80,20 +81,6 @@ unfoldable pub beyond : Kind → ℕ → Bool
 beyond k address = addressed (addressOf k) && ltb 0xFFFFFF address
 
 -- 10 is for the command whose wait stands in configuration 2
-abbrev pub waitsByRegister : Kind → Bool
-waitsByRegister Kinds.Unknown = false
-waitsByRegister (Kinds.Plain c) = false
-waitsByRegister (Kinds.ReadRegister r) = false
-waitsByRegister Kinds.ReadAny = false
-waitsByRegister Kinds.ReadMode = false
-waitsByRegister Kinds.ReadIdentity = false
-waitsByRegister (Kinds.WriteRegister r) = false
-waitsByRegister Kinds.WriteMode = false
-waitsByRegister (Kinds.ReadMemory s) = false
-waitsByRegister (Kinds.WriteMemory s) = false
-waitsByRegister Kinds.ReadArea = true
-waitsByRegister Kinds.WriteArea = false
-
 unfoldable pub overlong : Kind → ℕ → Bool
 overlong k cr2 = waitsByRegister k && ltb 0x0F cr2
 
@@ -117,7 +104,7 @@ tooMany AnyWrite wanted written = false
 -- each byte of a write, the first first
 unfoldable pub spreadAll : Wires → List ℕ → List ℕ
 spreadAll w [] = []
-spreadAll w (b ∷ bs) = spread w (perByte w) b ++ spreadAll w bs
+spreadAll w (b ∷ bs) = spread w (byteClocks w) b ++ spreadAll w bs
 
 abbrev pub silent : Clocks → List ℕ
 silent c = replicate (c .0) 0
@@ -134,8 +121,8 @@ unfoldable pub builtOf : Order → Kind → List ℕ
 builtOf o k =
     let w = sentOn o in
     let v = laterWires k w in
-    spread w (perByte w) (o .opcode)
-    ++ (spread v (addressLength (addressOf k) v .0) (o .address)
+    spread w (byteClocks w) (o .opcode)
+    ++ (spread v (addressLength (addressOf k) v) (o .address)
     ++ (silent (waitOf k w (o .cr2))
     ++ dataSent (bodyAsked o k) v o))
 

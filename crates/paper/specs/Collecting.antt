@@ -5,13 +5,13 @@ use mathlib.Core.List.{List, [], _∷_}
 use lib.Dec.{eqb}
 use Rattle.units.specs.declared.Bytes.{Bytes}
 use Rattle.units.specs.declared.Wires.{Wires}
-use Rattle.units.specs.Units.{bytes}
+use Rattle.units.specs.Units.{bytes, fewerBytes}
 use Rattle.wires.specs.Levels.{seenOf, drivenOf}
 use Rattle.record.specs.declared.Answer.{Answer}
 use Rattle.record.specs.declared.Answer.the-variants.{Size, Sample, Unknown}
 use Rattle.record.specs.Devices.{modeWires}
 use Rattle.paper.specs.Reading.{dataBytes}
-use Rattle.paper.specs.Answers.{firstOf, fewerBytes}
+use Rattle.paper.specs.Answers.{firstOf}
 use Rattle.paper.specs.Building.{manyBytes, Told, told}
 
 -- one, two or four wires

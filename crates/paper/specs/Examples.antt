@@ -1,6 +1,6 @@
 -- Document 01's bench examples (a) to (l), one table under one computed proof over the definitions. (a) has the host build a command; every other row sends samples to a
 -- fresh chip, or one with the registers that the example names, and looks at what comes back.
-use Prim.Native.Nat.{ℕ, _+_, _*_}
+use Prim.Native.Nat.{ℕ, _+_}
 use mathlib.Core.Bool.{Bool, true, not, _&&_}
 use mathlib.Core.List.{List, [], _∷_, _++_, map}
 use lib.Dec.{T, eqb}
@@ -10,8 +10,9 @@ use Rattle.units.specs.declared.Clocks.{Clocks}
 use Rattle.units.specs.declared.Bytes.{Bytes}
 use Rattle.units.specs.declared.Wires.{Wires}
 use Rattle.units.specs.declared.Wires.the-variants.{One, Two, Four}
-use Rattle.units.specs.Units.{bytes, perByte}
-use Rattle.wires.specs.Bits.{shiftOf, gatherFrom, spread, groupOf}
+use Rattle.units.specs.Units.{bytes, clocksOf, byteClocks}
+use Rattle.wires.specs.Bits.{shiftOf, gatherFrom, spelled, spread, groupOf}
+use Rattle.parts.specs.Parts.{offered}
 use Rattle.opcodes.specs.Kinds.{entryOf}
 use Rattle.commands.specs.Registers.{mappedOf}
 use Rattle.record.specs.declared.Device.{Device}
@@ -24,7 +25,7 @@ use Rattle.values.specs.Values.{statusAllowed, cr3Allowed, cr4Allowed, configur
 use Rattle.values.specs.States.{modeAllowed, zeros, registersM, registersP, volatileM, volatileP, identityM, identityP, validOf}
 use Rattle.places.specs.Places.{readSpan, writeSpan, placeIn}
 use Rattle.places.specs.Protection.{shutMemory, sectionShut, protectedOf, areaProtectedOf}
-use Rattle.paper.specs.InForce.{asleepFor, refusedAt, stopped, decided, commandClocks, wiresFor, addressClocks, waitClocks, bodyFor}
+use Rattle.paper.specs.InForce.{addressBytes, asleepFor, refusedAt, stopped, decided, commandClocks, wiresFor, addressClocks, waitClocks, bodyFor}
 use Rattle.paper.specs.Reading.{kindRead, addressRead, partsOf, bytesIn, dataBytes}
 use Rattle.paper.specs.Storing.{Lent, protectedAt, putAt, takeAll}
 use Rattle.paper.specs.Driving.{byteRead, levelAt, along}
@@ -51,10 +52,10 @@ onP memory = record { memory = memory; area = [] }
 
 -- a byte and an address on so many wires
 abbrev byte : Wires → ℕ → List ℕ
-byte w b = spread w (perByte w) b
+byte w b = spread w (byteClocks w) b
 
 abbrev address : Wires → ℕ → List ℕ
-address w a = spread w (3 * perByte w) a
+address w a = spread w (clocksOf w addressBytes) a
 
 abbrev sent : Device → Lent → List ℕ → World
 sent d l xs = transactOf d l xs (replicate (length xs) 0)
@@ -100,7 +101,7 @@ examples =
     -- (g) M, four at 3FEh
     ∷ (let r = sent m (onM (blank 1024)) (byte One 0x02 ++ (address One 0x3FE ++ (byte One 1 ++ (byte One 2 ++ (byte One 3 ++ byte One 4))))) in
     same (memoryAt r (0x3FE ∷ 0x3FF ∷ 0x000 ∷ 0x001 ∷ [])) (1 ∷ 2 ∷ 3 ∷ 4 ∷ []))
-    -- (h) M, status 04h: 3F0h to 3FFh are protected and no byte below them; four at 3EEh: two are stored
+    -- (h) M, status 04h: 3F0h to 3FFh are protected and 3EFh is not; four at 3EEh: two are stored
     ∷ (all (map (protectedOf (settingOf (statusTo 0x04 m))) topBytes) && not (protectedOf (settingOf (statusTo 0x04 m)) 0x3EF))
     ∷ (let r = sent (statusTo 0x04 m) (onM (blank 1024)) (byte One 0x02 ++ (address One 0x3EE ++ (byte One 1 ++ (byte One 2 ++ (byte One 3 ++ byte One 4))))) in
     answers r 0 (8 ∷ 24 ∷ 0 ∷ 32 ∷ 0 ∷ []) && same (memoryAt r (0x3EE ∷ 0x3EF ∷ 0x3F0 ∷ 0x3F1 ∷ [])) (1 ∷ 2 ∷ 0 ∷ 0 ∷ []))
@@ -116,7 +117,7 @@ examples =
     ∷ []
 
 pub examples-hold : T (all examples)
-unfolding examples kindAsked beyond overlong spreadAll builtOf buildOf shiftOf gatherFrom spread groupOf entryOf mappedOf statusAllowed cr3Allowed cr4Allowed configurationsAllowed modeRegisterAllowed modeAllowed zeros registersM registersP volatileM volatileP identityM identityP validOf readSpan writeSpan placeIn shutMemory sectionShut protectedOf areaProtectedOf asleepFor refusedAt stopped decided commandClocks wiresFor addressClocks waitClocks bodyFor kindRead addressRead partsOf bytesIn dataBytes protectedAt putAt takeAll byteRead levelAt along judge unarmed latchMissing sizedFor roomFor sampled factsOf outputOf over clockedOf transactOf
+unfolding examples kindAsked beyond overlong spreadAll builtOf buildOf shiftOf gatherFrom spelled groupOf entryOf mappedOf statusAllowed cr3Allowed cr4Allowed configurationsAllowed modeRegisterAllowed modeAllowed zeros registersM registersP volatileM volatileP identityM identityP validOf readSpan writeSpan placeIn shutMemory sectionShut protectedOf areaProtectedOf asleepFor refusedAt stopped decided commandClocks wiresFor addressClocks waitClocks bodyFor kindRead addressRead partsOf bytesIn dataBytes protectedAt putAt takeAll byteRead levelAt along judge unarmed latchMissing offered sizedFor roomFor sampled factsOf outputOf over clockedOf transactOf
 examples-hold = tt
 
 -- transactions on one chip, one after the other: their answers
@@ -191,5 +192,5 @@ further =
     ∷ []
 
 pub further-hold : T (all further)
-unfolding further answersIn powerOf kindAsked beyond overlong spreadAll builtOf buildOf seenIn strange collected collectOf shiftOf gatherFrom spread groupOf entryOf mappedOf statusAllowed cr3Allowed cr4Allowed configurationsAllowed modeRegisterAllowed modeAllowed zeros registersM registersP volatileM volatileP identityM identityP validOf readSpan writeSpan placeIn shutMemory sectionShut protectedOf areaProtectedOf asleepFor refusedAt stopped decided commandClocks wiresFor addressClocks waitClocks bodyFor kindRead addressRead partsOf bytesIn dataBytes protectedAt putAt takeAll byteRead levelAt along judge unarmed latchMissing sizedFor roomFor sampled factsOf outputOf over clockedOf transactOf
+unfolding further answersIn powerOf kindAsked beyond overlong spreadAll builtOf buildOf seenIn strange collected collectOf shiftOf gatherFrom spelled groupOf entryOf mappedOf statusAllowed cr3Allowed cr4Allowed configurationsAllowed modeRegisterAllowed modeAllowed zeros registersM registersP volatileM volatileP identityM identityP validOf readSpan writeSpan placeIn shutMemory sectionShut protectedOf areaProtectedOf asleepFor refusedAt stopped decided commandClocks wiresFor addressClocks waitClocks bodyFor kindRead addressRead partsOf bytesIn dataBytes protectedAt putAt takeAll byteRead levelAt along judge unarmed latchMissing offered sizedFor roomFor sampled factsOf outputOf over clockedOf transactOf
 further-hold = tt

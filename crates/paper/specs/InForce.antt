@@ -5,7 +5,7 @@ use mathlib.Core.Bool.{Bool, true, false, cond, not, _&&_, _||_}
 use Rattle.units.specs.declared.Clocks.{Clocks}
 use Rattle.units.specs.declared.Bytes.{Bytes}
 use Rattle.units.specs.declared.Wires.{Wires}
-use Rattle.units.specs.Units.{clocks, bytes, clocksOf}
+use Rattle.units.specs.Units.{clocks, bytes, clocksOf, byteClocks}
 use Rattle.opcodes.specs.declared.Control.{Control}
 use Rattle.opcodes.specs.declared.Control.the-variants as Controls
 use Rattle.opcodes.specs.declared.Kind.{Kind}
@@ -76,7 +76,7 @@ stopped s k = asleepFor s k || unknown k
 unfoldable pub decided : Setting → Kind → ℕ → Bool
 decided s k address = stopped s k || refusedAt s k address
 
--- an address has as many bits as three bytes
+-- an address has as many bits as three bytes. Document 01, "Commands of part M", second sentence, and "Commands of part P", second sentence
 abbrev pub addressBytes : Bytes
 addressBytes = bytes 3
 
@@ -90,7 +90,7 @@ addressLength Ignored w = clocksOf w addressBytes
 
 -- the clocks of each phase
 unfoldable pub commandClocks : Setting → Clocks
-commandClocks s = clocksOf (s .wires) (bytes 1)
+commandClocks s = byteClocks (s .wires)
 
 -- the wires of address, wait and data
 unfoldable pub wiresFor : Setting → Kind → Wires

@@ -8,7 +8,7 @@ use mathlib.Core.List.{List, [], _∷_}
 use lib.ListN.{length, drop, length-append}
 use Rattle.units.specs.declared.Wires.{Wires}
 use Rattle.units.specs.Units.{perByte}
-use Rattle.wires.specs.Bits.{spread}
+use Rattle.wires.specs.Bits.{spelled}
 use Rattle.wires.specs.Laws.{spread-length}
 use Rattle.paper.specs.Reading.{bytesIn, dataBytes}
 use Rattle.paper.specs.Building.{spreadAll}
@@ -29,4 +29,4 @@ module _ (w : Wires) where
   unfolding spreadAll
   sent-many [] = sym (zero-mul (perByte w))
   sent-many (b ∷ bs) =
-      rw (length-append (spread w (perByte w) b) (spreadAll w bs), spread-length w (perByte w) b, sent-many bs, suc-mul) (omega arith)
+      rw (length-append (spelled w (perByte w) b) (spreadAll w bs), spread-length w (perByte w) b, sent-many bs, suc-mul) (omega arith)

@@ -2,23 +2,20 @@
 use Prim.Native.Nat.{ℕ, zero, suc}
 use mathlib.Core.Bool.{Bool, cond}
 use mathlib.Core.List.{List, [], _∷_}
-use lib.Dec.{leb}
 use lib.ListN.{length, take, drop}
 use Rattle.units.specs.declared.Clocks.{Clocks}
 use Rattle.units.specs.declared.Wires.{Wires}
-use Rattle.units.specs.Units.{clocks, perByte, clocksOf, wholeOf}
+use Rattle.units.specs.Units.{clocks, atMost, perByte, clocksOf, wholeOf}
 use Rattle.wires.specs.Bits.{gather}
 use Rattle.opcodes.specs.declared.Kind.{Kind}
 use Rattle.opcodes.specs.declared.Kind.the-variants.{Unknown}
 use Rattle.opcodes.specs.Kinds.{kindOf}
+use Rattle.counts.specs.declared.Counts.{Counts}
+use Rattle.counts.specs.Counts.{counted}
 use Rattle.commands.specs.declared.plans.Body.{Body}
 use Rattle.commands.specs.declared.plans.Body.the-variants.{Nothing, FixedRead, AnyRead, FixedWrite, AnyWrite}
 use Rattle.record.specs.declared.Setting.{Setting}
 use Rattle.paper.specs.InForce.{commandClocks, wiresFor, addressClocks, waitClocks, bodyFor}
-
--- the samples are as many as the clocks ask, or more
-abbrev pub full : Clocks → List ℕ → Bool
-full c xs = leb (c .0) (length xs)
 
 -- the first clocks of the samples, and those after them
 abbrev pub first : Clocks → List ℕ → List ℕ
@@ -31,9 +28,9 @@ after c xs = drop (c .0) xs
 abbrev pub many : List ℕ → Clocks
 many xs = clocks (length xs)
 
--- no transaction is longer
-abbrev pub longest : Clocks
-longest = clocks 65535
+-- they are as many as a phase has, or more
+abbrev pub full : Clocks → List ℕ → Bool
+full c xs = atMost c (many xs)
 
 -- the kind that the command spells; there is none while bits are missing
 unfoldable pub kindRead : Setting → List ℕ → Kind
@@ -84,6 +81,10 @@ partsOf s xs =
       dataPart = dataPart (bodyFor s k a) (wiresFor s k) xs₃;
       restPart = restPart (bodyFor s k a) (wiresFor s k) xs₃;
     }
+
+-- the five counts: the clocks of each phase
+abbrev pub countsIn : Parts → Counts
+countsIn p = counted (many (p .commandPart)) (many (p .addressPart)) (many (p .waitPart)) (many (p .dataPart)) (many (p .restPart))
 
 -- the whole bytes of data samples, the first first; an unfinished one is left out
 unfoldable pub bytesIn : Wires → ℕ → List ℕ → List ℕ

@@ -1,23 +1,25 @@
 -- A transaction, whole: what comes in, what goes out. Document 01, "Answer numbers" and "Reset and power".
 use Prim.Native.Nat.{ℕ}
-use mathlib.Core.Bool.{Bool, true, false, cond, not, _&&_}
+use mathlib.Core.Bool.{Bool, true, cond, not, _&&_}
 use mathlib.Core.List.{List, [], _∷_, _++_}
-use lib.Dec.{eqb, ltb, leb}
+use lib.Dec.{eqb, ltb}
 use lib.ListN.{length, drop, replicate}
+use Rattle.units.specs.Units.{atMost, longest}
 use Rattle.parts.specs.declared.Part.{Part}
 use Rattle.parts.specs.declared.Part.the-variants.{M, P}
-use Rattle.parts.specs.Parts.{partOf, knownPart, leastOf, mostOf, areaOf}
+use Rattle.parts.specs.Parts.{partOf, knownPart, offered, areaOf}
 use Rattle.counts.specs.declared.Counts.{Counts}
-use Rattle.counts.specs.Counts.{counted, noCounts}
+use Rattle.counts.specs.Counts.{noCounts}
 use Rattle.record.specs.declared.Answer.{Answer}
-use Rattle.record.specs.declared.Answer.the-variants.{Done, Size, Sample, State, Short, Unknown, Asleep, Address, Latch, Protected, Reserved, Long, Unarmed}
+use Rattle.record.specs.declared.Answer.the-variants.{Done, Size, Sample, State}
 use Rattle.record.specs.declared.Device.{Device}
 use Rattle.record.specs.Devices.{settingOf}
+use Rattle.record.specs.Answers.{isDone}
 use Rattle.record.specs.Changes.{settledOf, poweredOf}
 use Rattle.values.specs.States.{validOf}
 use Rattle.places.specs.Addresses.{memorySize}
 use Rattle.paper.specs.InForce.{wiresFor, bodyFor}
-use Rattle.paper.specs.Reading.{Parts, longest, partsOf, many, dataBytes}
+use Rattle.paper.specs.Reading.{Parts, partsOf, many, countsIn, dataBytes}
 use Rattle.paper.specs.Storing.{Lent, nothingTaken, takeByte, takeAll}
 use Rattle.paper.specs.Driving.{drivenAt, along}
 use Rattle.paper.specs.Answers.{Facts, judge}
@@ -35,14 +37,13 @@ pub record World : Type 0 where
 unfoldable pub sizedFor : Device → Lent → Bool
 sizedFor d l =
     knownPart (d .part)
-    && (leb (leastOf (partOf (d .part))) (d .n)
-    && (leb (d .n) (mostOf (partOf (d .part)))
+    && (offered (partOf (d .part)) (d .n)
     && (eqb (length (l .memory)) (memorySize (d .n) .0)
-    && eqb (length (l .area)) (areaOf (partOf (d .part)) .0))))
+    && eqb (length (l .area)) (areaOf (partOf (d .part)) .0)))
 
 -- and of a transaction its clocks and its output
 unfoldable pub roomFor : List ℕ → List ℕ → Bool
-roomFor xs out = leb (length xs) (longest .0) && leb (length xs) (length out)
+roomFor xs out = atMost (many xs) longest && atMost (many xs) (many out)
 
 -- 2: every sample is 0 to 15
 unfoldable pub sampled : List ℕ → Bool
@@ -56,38 +57,24 @@ factsOf d l p =
     record {
       kind = p .kind;
       address = p .address;
-      counts = counted (many (p .commandPart)) (many (p .addressPart)) (many (p .waitPart)) (many (p .dataPart)) (many (p .restPart));
+      counts = countsIn p;
       taken =
           takeAll (takeByte (bodyFor s (p .kind) (p .address)) s (p .kind) (p .address)) 0 (dataBytes (wiresFor s (p .kind)) (p .dataPart))
           (nothingTaken l);
     }
 
-abbrev pub isDone : Answer → Bool
-isDone Done = true
-isDone Size = false
-isDone Sample = false
-isDone State = false
-isDone Short = false
-isDone Unknown = false
-isDone Asleep = false
-isDone Address = false
-isDone Latch = false
-isDone Protected = false
-isDone Reserved = false
-isDone Long = false
-isDone Unarmed = false
-
 abbrev pub undriven : List ℕ → List ℕ
 undriven xs = replicate (length xs) 0
+
+-- the output of all clocks, given that of the data clocks: before and after them nothing is driven
+abbrev pub around : Parts → List ℕ → List ℕ
+around p o = undriven (p .commandPart) ++ (undriven (p .addressPart) ++ (undriven (p .waitPart) ++ (o ++ undriven (p .restPart))))
 
 -- what the clocks drive: the data clocks of a read that is done, and nothing else
 unfoldable pub outputOf : Device → Lent → Parts → Answer → List ℕ
 outputOf d l p v =
-    undriven (p .commandPart)
-    ++ (undriven (p .addressPart)
-    ++ (undriven (p .waitPart)
-    ++ (cond (isDone v) (along (drivenAt (bodyFor (settingOf d) (p .kind) (p .address)) d (p .kind) (p .address) l) 0 (p .dataPart)) (undriven (p .dataPart))
-    ++ undriven (p .restPart))))
+    around p
+    (cond (isDone v) (along (drivenAt (bodyFor (settingOf d) (p .kind) (p .address)) d (p .kind) (p .address) l) 0 (p .dataPart)) (undriven (p .dataPart)))
 
 -- the output buffer after the clocks: what they drive, and the room past them as it was
 unfoldable pub over : List ℕ → List ℕ → List ℕ

@@ -24,7 +24,7 @@ use Rattle.clocking.specs.Machine.{beginOf, Run, stepOf, runOf, outsOf}
 use Rattle.judging.specs.declared.Outcome.{Outcome}
 use Rattle.judging.specs.Finish.{outcomeOf, finishOf}
 use Rattle.bridge.specs.Bridge.{bridge}
-use Rattle.running.specs.Fed.{Ready, Fed}
+use Rattle.running.specs.Fed.{Feedable, Fed}
 use Rattle.running.specs.Laws.{run-append, outs-append, outs-length, step-one}
 use Rattle.parting.specs.Parting.{worldOf, reachOf, placeOf, upcoming, Passed, Advancing, Advanced, Going}
 
@@ -87,7 +87,7 @@ module _
   pub within : (from .0 ≤ e) × (e ≤ length xs)
   within = rw b (reach-within from c (length xs) (rw a (v .seen)))
 
-  pub ready : Ready d p (take (e - from .0) (drop (from .0) xs)) (midOf (from .0) (e - from .0) out)
+  pub ready : Feedable d p (take (e - from .0) (drop (from .0) xs)) (midOf (from .0) (e - from .0) out)
   ready =
       let w = within in
       let i = ap (λ (t : Clocks). t .0) a in

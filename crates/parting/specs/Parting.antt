@@ -8,13 +8,12 @@ use lib.ListN.{length, take, drop}
 use Rattle.units.specs.declared.Clocks.{Clocks}
 use Rattle.units.specs.declared.Bytes.{Bytes}
 use Rattle.units.specs.declared.Wires.{Wires}
-use Rattle.units.specs.Units.{clocks, clocksOf, wholeOf}
+use Rattle.units.specs.Units.{clocks, clocksOf, wholeOf, fewerBytes}
 use Rattle.commands.specs.declared.plans.Body.{Body}
 use Rattle.commands.specs.declared.plans.Body.the-variants.{Nothing, FixedRead, AnyRead, FixedWrite, AnyWrite}
 use Rattle.counts.specs.Counts.{total}
 use Rattle.record.specs.declared.Device.{Device}
 use Rattle.bursts.specs.Lends.{lends}
-use Rattle.paper.specs.Answers.{fewerBytes}
 use Rattle.paper.specs.Reading.{first}
 use Rattle.paper.specs.Transaction.{World, over}
 use Rattle.clocking.specs.declared.Progress.{Progress}

@@ -1,8 +1,8 @@
 -- The parts and their limits. Document 01, "Commands of part M" (memory and area), "Commands of part P" (n as for M), "Answer numbers" row 1
 -- (the area of P is empty), "Bench tape" (the numbers of the parts).
 use Prim.Native.Nat.{ℕ}
-use mathlib.Core.Bool.{Bool, cond, _||_}
-use lib.Dec.{eqb}
+use mathlib.Core.Bool.{Bool, cond, _||_, _&&_}
+use lib.Dec.{eqb, leb}
 use Rattle.units.specs.declared.Bytes.{Bytes}
 use Rattle.units.specs.Units.{bytes}
 use Rattle.parts.specs.declared.Part.{Part}
@@ -28,6 +28,9 @@ leastOf P = 10
 abbrev pub mostOf : Part → ℕ
 mostOf M = 21
 mostOf P = 21
+
+unfoldable pub offered : Part → ℕ → Bool
+offered p n = leb (leastOf p) n && leb n (mostOf p)
 
 -- the augmented area, and each of its eight sections
 abbrev pub areaOf : Part → Bytes

@@ -1,7 +1,7 @@
 // What tells one part from another: the parts and their limits, and the lengths and shares that their
 // registers choose.
 ghost use mathlib.Core.Path.{_≡_};
-ghost use Rattle.parts.specs.Parts.{partOf, knownPart, leastOf, mostOf, areaOf, wrapCodes};
+ghost use Rattle.parts.specs.Parts.{partOf, knownPart, leastOf, mostOf, offered, areaOf, wrapCodes};
 ghost use Rattle.parts.specs.Lengths.{wrapLength, groupLength, shareOf};
 use units::Bytes;
 
@@ -140,4 +140,14 @@ pub fn share(status: u8) -> usize
     ensures { λ r. ⌜ r ≡ shareOf status ⌝ }
 {
     SHARES[(status / 4 % 8) as usize]
+}
+
+// Whether a part has memories of 2^n bytes.
+pub fn is_offered(part: Part, n: u8) -> bool
+    ensures { λ r. ⌜ r ≡ offered part n ⌝ }
+{
+    if n < part.least() {
+        return false;
+    }
+    n <= part.most()
 }

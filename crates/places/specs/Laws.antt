@@ -18,7 +18,7 @@ use Rattle.places.specs.Places.{groupInForce, wrapInForce, readSpanFor, 
 use Rattle.places.specs.Protection.{shutBytes, sectionShut}
 
 -- a burst that can be placed: a store and a group that are not empty, and a byte that the clocks of a transaction can reach
-pub record Burst (size span i : Bytes) : Type 0 where
+pub record Placeable (size span i : Bytes) : Type 0 where
   pub store : 0 < size .0
   pub group : 0 < span .0
   pub few : i .0 ≤ 65535

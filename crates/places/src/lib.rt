@@ -5,11 +5,11 @@
 // no memory is larger than an address of 24 bits reaches. The `requires` below ask for both, and the checks
 // of sizes have seen to them before anything comes here.
 ghost use mathlib.Core.Path.{_≡_};
-ghost use Prim.Native.Nat.{_+_, _<_, _≤_, _^_};
+ghost use Prim.Native.Nat.{_+_, _<_, _≤_};
 ghost use Rattle.places.specs.Addresses.{memorySize, isMapped, memoryAllowed, allowedOf};
 ghost use Rattle.places.specs.Places.{groupInForce, wrapInForce, readSpan, writeSpan, placeIn, readPlace, writePlace, areaPlace};
-ghost use Rattle.places.specs.Laws.{Burst};
-ghost use Rattle.places.specs.Protection.{shutBytes, shutMemory, sectionShut, protectedOf, areaProtectedOf};
+ghost use Rattle.places.specs.Laws.{Placeable};
+ghost use Rattle.places.specs.Protection.{shutMemory, sectionShut, protectedOf, areaProtectedOf};
 use commands::plans::Address;
 use commands::registers::Mapped;
 use commands::registers::register_at;
@@ -110,7 +110,7 @@ pub fn write_span(s: Setting) -> Bytes
 
 // Where byte `i` of a burst lies, in a store of `size` bytes and groups of `span`.
 fn place_in(size: Bytes, span: Bytes, address: u32, i: Bytes) -> usize
-    requires { ⌜ Burst size span i ⌝ }
+    requires { ⌜ Placeable size span i ⌝ }
     ensures { λ r. ⌜ r ≡ placeIn size span address i ⌝ }
 {
     let store = size.0;

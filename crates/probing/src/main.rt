@@ -2,7 +2,7 @@
 // record that it left, and digests of memory, area and output. The second program prints the same.
 use bundles::is_taken;
 use bundles::number_of;
-use columns::State;
+use columns::Printed;
 use columns::column;
 use columns::cut;
 use columns::digest_column;
@@ -200,7 +200,7 @@ fn called(
 
 // Probe `k` with its samples, on what has the lengths that it asks for.
 fn run(
-    s: State,
+    s: Printed,
     k: u64,
     p: Probe,
     memory: &mut [u8],
@@ -208,7 +208,7 @@ fn run(
     samples: &mut [u8],
     output: &mut [u8],
     text: &mut [u8],
-) -> State {
+) -> Printed {
     if !is_taken(samples) {
         return cut(text, s.place);
     }
@@ -219,7 +219,7 @@ fn run(
 
 // The same with so much of samples and output as the probe says, where there is so much.
 fn on_wires(
-    s: State,
+    s: Printed,
     k: u64,
     p: Probe,
     memory: &mut [u8],
@@ -227,7 +227,7 @@ fn on_wires(
     samples: &mut [u8],
     output: &mut [u8],
     text: &mut [u8],
-) -> State {
+) -> Printed {
     let l = p.lengths;
     let long = l.samples;
     let room = l.output;
@@ -251,7 +251,7 @@ fn on_wires(
 
 // The same of memory and area.
 fn on_stores(
-    s: State,
+    s: Printed,
     k: u64,
     p: Probe,
     memory: &mut [u8],
@@ -259,7 +259,7 @@ fn on_stores(
     samples: &mut [u8],
     output: &mut [u8],
     text: &mut [u8],
-) -> State {
+) -> Printed {
     let l = p.lengths;
     let size = l.memory;
     let edge = l.area;
@@ -282,14 +282,14 @@ fn on_stores(
 }
 
 fn turn(
-    s: State,
+    s: Printed,
     k: u64,
     memory: &mut [u8],
     area: &mut [u8],
     samples: &mut [u8],
     output: &mut [u8],
     text: &mut [u8],
-) -> State {
+) -> Printed {
     let h = take_head();
     let bytes = h.bytes;
     let p = probe_of(bytes);
@@ -306,7 +306,7 @@ fn turn(
 }
 
 fn all(memory: &mut [u8], area: &mut [u8], samples: &mut [u8], output: &mut [u8], text: &mut [u8]) {
-    let mut s = State { place: 0, go: true };
+    let mut s = Printed { place: 0, go: true };
     let mut k = 0;
     while k < 1000000 && s.go {
         k += 1;

@@ -16,20 +16,6 @@ pub fn opened<'a>(tape: &'a [u8], at: usize) -> Reader<'a>
     Reader { tape, at }
 }
 
-// Where it stands.
-pub fn place<'a>(r: Reader<'a>) -> usize
-    ensures { λ n. ⌜ n ≡ r .entry .at ⌝ }
-{
-    r.at
-}
-
-// The same tape at another place.
-pub fn moved<'a>(r: Reader<'a>, at: usize) -> Reader<'a>
-    ensures { λ q. ⌜ (q .tape ≡ r .entry .tape) × (q .at ≡ at) ⌝ }
-{
-    Reader { tape: r.tape, at }
-}
-
 // What stands at its place.
 pub fn found<'a>(r: Reader<'a>) -> Found
     ensures { λ f. ⌜ f ≡ foundOf (now (r .entry .tape)) (r .entry .at) ⌝ }

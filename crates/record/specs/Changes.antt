@@ -1,7 +1,7 @@
 -- What changes a record. Document 01, "Commands of part M" (control, register writes, latch), "Commands of part P" (mode register, toggle) and
 -- "Reset and power"; "Answer numbers", what each answer leaves.
 use Prim.Native.Nat.{ℕ}
-use mathlib.Core.Bool.{Bool, true, false, not}
+use mathlib.Core.Bool.{Bool, true, false, cond, not}
 use mathlib.Core.List.{List}
 use lib.ListN.{getD}
 use Rattle.parts.specs.declared.Part.{Part}
@@ -14,11 +14,11 @@ use Rattle.opcodes.specs.declared.Register.the-variants.{Status, AreaProtection
 use Rattle.opcodes.specs.declared.Kind.{Kind}
 use Rattle.opcodes.specs.declared.Kind.the-variants as Kinds
 use Rattle.record.specs.declared.Answer.{Answer}
-use Rattle.record.specs.declared.Answer.the-variants.{Done, Size, Sample, State, Short, Unknown, Asleep, Address, Latch, Protected, Reserved, Long, Unarmed}
 use Rattle.record.specs.declared.Registers.{Registers}
 use Rattle.record.specs.declared.Volatile.{Volatile}
 use Rattle.record.specs.declared.Identities.{Identities}
 use Rattle.record.specs.declared.Device.{Device}
+use Rattle.record.specs.Answers.{isDone, refuses, isProtected}
 use Rattle.record.specs.Fresh.{freshModeRegister}
 use Rattle.record.specs.Latches.{afterBurst, afterRegister}
 use Rattle.record.specs.Shows.{withoutLatch}
@@ -146,16 +146,7 @@ effectOf Kinds.WriteArea v d = burstDone d
 
 -- Answers 1 to 3 change nothing. Every other transaction disarms, but for 66, which arms when it is done. 9 moves the latch as the write would have.
 abbrev pub settledOf : Kind → List ℕ → Answer → Device → Device
-settledOf k v Done d = effectOf k v (armTo false d)
-settledOf k v Size d = d
-settledOf k v Sample d = d
-settledOf k v State d = d
-settledOf k v Short d = armTo false d
-settledOf k v Unknown d = armTo false d
-settledOf k v Asleep d = armTo false d
-settledOf k v Address d = armTo false d
-settledOf k v Latch d = armTo false d
-settledOf k v Protected d = burstDone (armTo false d)
-settledOf k v Reserved d = armTo false d
-settledOf k v Long d = armTo false d
-settledOf k v Unarmed d = armTo false d
+settledOf k v answer d =
+    cond (refuses answer) d
+    (cond (isDone answer) (effectOf k v (armTo false d))
+    (cond (isProtected answer) (burstDone (armTo false d)) (armTo false d)))

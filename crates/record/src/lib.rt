@@ -4,7 +4,7 @@
 // its own. What changes a record is a method that takes it and returns the next.
 ghost use mathlib.Core.Path.{_≡_};
 ghost use lib.ListN.{getD};
-ghost use Rattle.record.specs.Answers.{answerNumber};
+ghost use Rattle.record.specs.Answers.{answerNumber, isDone, refuses, isProtected};
 ghost use Rattle.record.specs.Devices.{modeWires, settingOf};
 ghost use Rattle.record.specs.Fresh.{freshM, freshP};
 ghost use Rattle.record.specs.Changes.{latchTo, armTo, modeTo, sleepTo, toggleTo, resetOf, poweredOf, controlled, writtenTo, burstDone, registerDone, effectOf, settledOf};
@@ -54,6 +54,31 @@ pub fn answer_number(a: Answer) -> u8
         Answer::Long => 11,
         Answer::Unarmed => 12,
     }
+}
+
+// 0: the command was done.
+pub fn is_done(a: Answer) -> bool
+    ensures { λ r. ⌜ r ≡ isDone a ⌝ }
+{
+    answer_number(a) == 0
+}
+
+// 1, 2 and 3: the call was refused.
+pub fn is_refusal(a: Answer) -> bool
+    ensures { λ r. ⌜ r ≡ refuses a ⌝ }
+{
+    let v = answer_number(a);
+    if v < 1 {
+        return false;
+    }
+    v <= 3
+}
+
+// 9: every byte of the burst was protected.
+fn is_protected(a: Answer) -> bool
+    ensures { λ r. ⌜ r ≡ isProtected a ⌝ }
+{
+    answer_number(a) == 9
 }
 
 // The registers that keep their contents without power, and part P's mode register.
@@ -388,21 +413,17 @@ impl Device {
     pub fn settled(self, k: Kind, value: [u8; 8], answer: Answer) -> Self
         ensures { λ r. ⌜ r ≡ settledOf k value answer self ⌝ }
     {
-        match answer {
-            Answer::Done => self.armed(false).effect(k, value),
-            Answer::Size => self,
-            Answer::Sample => self,
-            Answer::State => self,
-            Answer::Short => self.armed(false),
-            Answer::Unknown => self.armed(false),
-            Answer::Asleep => self.armed(false),
-            Answer::Address => self.armed(false),
-            Answer::Latch => self.armed(false),
-            Answer::Protected => self.armed(false).burst_done(),
-            Answer::Reserved => self.armed(false),
-            Answer::Long => self.armed(false),
-            Answer::Unarmed => self.armed(false),
+        if is_refusal(answer) {
+            return self;
         }
+        let d = self.armed(false);
+        if is_done(answer) {
+            return d.effect(k, value);
+        }
+        if is_protected(answer) {
+            return d.burst_done();
+        }
+        d
     }
 }
 

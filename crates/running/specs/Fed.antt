@@ -10,7 +10,7 @@ use Rattle.clocking.specs.declared.Progress.{Progress}
 use Rattle.clocking.specs.Machine.{Run, runOf, outsOf}
 
 -- a chip whose memory an address reaches, few enough clocks together with those before, and room for what they drive
-pub record Ready (d : Device) (p : Progress) (xs out : List ℕ) : Type 0 where
+pub record Feedable (d : Device) (p : Progress) (xs out : List ℕ) : Type 0 where
   pub reach : d .n ≤ 24
   pub few : total (p .counts) .0 + length xs ≤ 65535
   pub room : length xs ≤ length out

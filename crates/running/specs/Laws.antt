@@ -9,7 +9,7 @@ use mathlib.Core.Bool.{Bool, true, false, cond}
 use mathlib.Core.List.{List, [], _∷_, _++_}
 use lib.ListN.{length, getD, drop, set, length-set, drop-of-length-le}
 use lib.Seq.{drop-cons, sets, sets-eq}
-use Rattle.units.specs.Units.{clocks}
+use Rattle.units.specs.Units.{clocks, atMost}
 use Rattle.wires.specs.Bits.{shiftOf}
 use Rattle.opcodes.specs.declared.Kind.{Kind}
 use Rattle.opcodes.specs.Kinds.{kindOf}
@@ -23,7 +23,7 @@ use Rattle.paper.specs.Transaction.{over}
 use Rattle.clocking.specs.declared.Phase.{Phase}
 use Rattle.clocking.specs.declared.Phase.the-variants.{Command, Address, Wait, Data, Rest}
 use Rattle.clocking.specs.declared.Progress.{Progress}
-use Rattle.clocking.specs.Machine.{fullAt, reached, Run, toData, toWait, toAddress, commandStep, addressStep, waitStep, dataStep, stepIn, stepOf, driveOf, runOf, outsOf}
+use Rattle.clocking.specs.Machine.{fullAt, Run, toData, toWait, toAddress, commandStep, addressStep, waitStep, dataStep, stepIn, stepOf, driveOf, runOf, outsOf}
 use Rattle.feeding.specs.Views.{runAs}
 use Rattle.running.specs.Fed.{Fed}
 
@@ -70,18 +70,18 @@ module _ (s : Setting) (k : Kind) (a : ℕ) (c : Counts) (v : List ℕ) (any : B
 
   wait-clocks : Counted (toWait s k a c v any) (total c .0)
   unfolding toWait
-  wait-clocks = chosen (reached (waitClocks s k a) (clocks 0)) data-clocks (record { is = refl })
+  wait-clocks = chosen (atMost (waitClocks s k a) (clocks 0)) data-clocks (record { is = refl })
 
 address-clocks : (s : Setting) (k : Kind) (c : Counts) (v : List ℕ) (any : Bool) → Counted (toAddress s k c v any) (total c .0)
 unfolding toAddress
-address-clocks s k c v any = chosen (reached (addressClocks s k) (clocks 0)) (wait-clocks s k 0 c v any) (record { is = refl })
+address-clocks s k c v any = chosen (atMost (addressClocks s k) (clocks 0)) (wait-clocks s k 0 c v any) (record { is = refl })
 
 module _ (s : Setting) (latch : Bool) (r : Run) (x : ℕ) where
   command-one : Counted (commandStep s (r .progress) x) (clocksIn (r .progress) + 1)
   unfolding commandStep
   command-one =
       let p = r .progress in
-      chosen (reached (commandClocks s) (commandTick (p .counts) .command))
+      chosen (atMost (commandClocks s) (commandTick (p .counts) .command))
       (more (address-clocks s (kindOf (s .part) (s .wires) (shiftOf (s .wires) (p .number) x % 256)) (commandTick (p .counts)) (p .value) (p .any)) (omega arith))
       (record { is = omega arith })
 
@@ -89,7 +89,7 @@ module _ (s : Setting) (latch : Bool) (r : Run) (x : ℕ) where
   unfolding addressStep
   address-one =
       let p = r .progress in
-      chosen (reached (addressClocks s (p .kind)) (addressTick (p .counts) .address))
+      chosen (atMost (addressClocks s (p .kind)) (addressTick (p .counts) .address))
       (more (wait-clocks s (p .kind) (shiftOf (wiresFor s (p .kind)) (p .number) x) (addressTick (p .counts)) (p .value) (p .any)) (omega arith))
       (record { is = omega arith })
 
@@ -97,7 +97,7 @@ module _ (s : Setting) (latch : Bool) (r : Run) (x : ℕ) where
   unfolding waitStep
   wait-one =
       let p = r .progress in
-      chosen (reached (waitClocks s (p .kind) (p .address)) (waitTick (p .counts) .wait))
+      chosen (atMost (waitClocks s (p .kind) (p .address)) (waitTick (p .counts) .wait))
       (more (data-clocks s (p .kind) (p .address) (waitTick (p .counts)) (p .value) (p .any)) (omega arith))
       (record { is = omega arith })
 

@@ -1,10 +1,8 @@
 // A stretch of clocks fed to an unfinished transaction: what each drives goes to the output, and what they
 // leave comes back.
-ghost use Prim.Native.Nat.{_+_, _≤_};
-ghost use lib.ListN.{length};
-ghost use Rattle.counts.specs.Counts.{total};
+ghost use Prim.Native.Nat.{_+_};
 ghost use Rattle.feeding.specs.Views.{runAs};
-ghost use Rattle.running.specs.Fed.{Ready, Fed};
+ghost use Rattle.running.specs.Fed.{Feedable, Fed};
 use clocking::Progress;
 use feeding::drive;
 use feeding::step;
@@ -18,7 +16,7 @@ pub fn feed(
     samples: &[u8],
     output: &mut [u8],
 ) -> Progress
-    requires { ⌜ Ready d p (now samples) (now output) ⌝ }
+    requires { ⌜ Feedable d p (now samples) (now output) ⌝ }
     ensures { λ r. ⌜ Fed d (runAs p (now (memory .entry)) (now (area .entry))) (now (samples .entry)) (now (output .entry)) (runAs r (now (memory .exit)) (now (area .exit))) (now (output .exit)) ⌝ }
 {
     let s = d.setting();

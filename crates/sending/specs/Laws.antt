@@ -11,7 +11,7 @@ use Rattle.units.specs.declared.Clocks.{Clocks}
 use Rattle.units.specs.declared.Wires.{Wires}
 use Rattle.units.specs.declared.Wires.the-variants.{One, Two, Four}
 use Rattle.units.specs.Units.{clocks, bytes, wiresOf, perByte, clocksOf}
-use Rattle.wires.specs.Bits.{above, spread}
+use Rattle.wires.specs.Bits.{above, spelled}
 use Rattle.pages.specs.Laws.{drop-one}
 use Rattle.paper.specs.Building.{spreadAll, silent}
 
@@ -34,13 +34,13 @@ below-few Two below h = omega arith
 below-few Four below h = omega arith
 
 -- ---- what is left to send
-pub spread-next : (w : Wires) (n v : ℕ) → 0 < n → spread w n v ≡ above w (n - 1) v ∷ spread w (n - 1) v
-unfolding spread
+pub spread-next : (w : Wires) (n v : ℕ) → 0 < n → spelled w n v ≡ above w (n - 1) v ∷ spelled w (n - 1) v
+unfolding spelled
 spread-next w zero v h = absurd (not-suc-le-zero h)
 spread-next w (suc n) v h = let e : suc n - 1 ≡ n = omega arith in rw e
 
-pub spread-none : (w : Wires) (n v : ℕ) → n ≤ 0 → spread w n v ≡ []
-unfolding spread
+pub spread-none : (w : Wires) (n v : ℕ) → n ≤ 0 → spelled w n v ≡ []
+unfolding spelled
 spread-none w n v h = let e : n ≡ 0 = omega arith in rw e
 
 pub silent-next : (n : ℕ) → 0 < n → silent (clocks n) ≡ 0 ∷ silent (clocks (n - 1))
@@ -70,7 +70,7 @@ pub times-byte : (w : Wires) (n : ℕ) {c : Clocks} → c ≡ clocksOf w (bytes 
 times-byte w n e = rw (e, one-mul)
 
 module _ (w : Wires) (bs : List ℕ) (i : ℕ) where
-  pub written-next : i < length bs → spreadAll w (drop i bs) ≡ spread w (perByte w) (getD bs i 0) ++ spreadAll w (drop (i + 1) bs)
+  pub written-next : i < length bs → spreadAll w (drop i bs) ≡ spelled w (perByte w) (getD bs i 0) ++ spreadAll w (drop (i + 1) bs)
   unfolding spreadAll
   written-next h = rw (drop-one bs i h)
 

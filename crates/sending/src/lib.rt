@@ -1,7 +1,7 @@
 // What the host sends, clock by clock: numbers on so many wires, high bits first, and silent clocks. Samples are put at
 // a place of a buffer, and the place behind them comes back.
 ghost use mathlib.Core.Path.{_≡_};
-ghost use Rattle.units.specs.Units.{wiresOf, perByte, clocksOf};
+ghost use Rattle.units.specs.Units.{wiresOf, clocksOf, byteClocks};
 ghost use Rattle.wires.specs.Bits.{above, spread};
 ghost use Rattle.pages.specs.Page.{page, putsOf};
 ghost use Rattle.paper.specs.Building.{spreadAll, silent};
@@ -40,7 +40,7 @@ fn bits_above(v: u32, below: Clocks, w: Wires) -> u8
 
 // The low bits of `v`, in so many clocks.
 pub fn put_number(samples: &mut [u8], at: usize, w: Wires, c: Clocks, v: u32) -> usize
-    ensures { λ r. ⌜ page r (now (samples .exit)) ≡ putsOf (spread w (c .0) v) (page at (now (samples .entry))) ⌝ }
+    ensures { λ r. ⌜ page r (now (samples .exit)) ≡ putsOf (spread w c v) (page at (now (samples .entry))) ⌝ }
 {
     let mut to = at;
     let mut below = c.0;
@@ -67,7 +67,7 @@ pub fn put_silent(samples: &mut [u8], at: usize, c: Clocks) -> usize
 
 // A byte.
 pub fn put_byte(samples: &mut [u8], at: usize, w: Wires, b: u8) -> usize
-    ensures { λ r. ⌜ page r (now (samples .exit)) ≡ putsOf (spread w (perByte w) b) (page at (now (samples .entry))) ⌝ }
+    ensures { λ r. ⌜ page r (now (samples .exit)) ≡ putsOf (spread w (byteClocks w) b) (page at (now (samples .entry))) ⌝ }
 {
     let c = bytes_to_clocks(Bytes(1), w);
     put_number(samples, at, w, c, b as u32)

@@ -1,19 +1,23 @@
 // A tape played record by record: the place on it, and the chip in the socket.
+ghost use mathlib.Core.Path.{_≡_};
+ghost use Rattle.bursts.specs.Lends.{lends};
+ghost use Rattle.session.specs.Session.{started, bytesFor, idleOf, turnedOf, turnOf};
 use judging::Outcome;
 use reader::found_at;
 use record::Answer;
 use record::Device;
 use tape::Entry;
+use tape::Socket;
 use tape::is_good;
 use tape::play_at;
 use tape::socket_of;
+use units::Bytes;
 
-// `chip` says whether there is a chip in the socket; `memory` and `area` are its bytes.
+// `chip` says whether there is a chip in the socket, and `socket` how many bytes of memory and area it has.
 pub struct Session {
     pub at: usize,
     pub chip: bool,
-    pub memory: usize,
-    pub area: usize,
+    pub socket: Socket,
     pub device: Device,
 }
 
@@ -26,51 +30,65 @@ pub struct Turn {
 }
 
 // The front of a tape and an empty socket.
-pub fn start() -> Session {
+pub fn start() -> Session
+    ensures { λ r. ⌜ r ≡ started ⌝ }
+{
     Session {
         at: 0,
         chip: false,
-        memory: 0,
-        area: 0,
+        socket: Socket {
+            memory: Bytes(0),
+            area: Bytes(0),
+        },
         device: Device::fresh_p(10, [0; 8]),
     }
 }
 
-// The bytes of memory that the record's chip has: a fresh one's, or those of the chip in the socket.
-fn memory_for(e: Entry, now: usize) -> usize {
+// The bytes of the chip that a record is played on: a fresh one's own, or those of the chip in the socket.
+fn bytes_for(e: Entry, now: Socket) -> Socket
+    ensures { λ r. ⌜ r ≡ bytesFor e now ⌝ }
+{
     match e {
         Entry::End => now,
-        Entry::Bad => now,
+        Entry::Bad(_) => now,
         Entry::Transaction => now,
         Entry::PowerCycle => now,
-        Entry::Fresh { part, n } => socket_of(part, n).memory,
+        Entry::Fresh { part, n } => socket_of(part, n),
     }
 }
 
-fn area_for(e: Entry, now: usize) -> usize {
-    match e {
-        Entry::End => now,
-        Entry::Bad => now,
-        Entry::Transaction => now,
-        Entry::PowerCycle => now,
-        Entry::Fresh { part, n } => socket_of(part, n).area,
+// Nothing is played.
+fn idle(s: Session, e: Entry) -> Turn
+    ensures { λ r. ⌜ r ≡ idleOf s e ⌝ }
+{
+    let d = s.device;
+    Turn {
+        good: false,
+        entry: e,
+        outcome: device::unclocked(Answer::Size, d),
+        session: s,
     }
 }
 
-// The record at the session's place, played on the chip's part of memory and area. Where it cannot be played
-// nothing changes.
+// The record at the session's place, played on the chip's part of memory and area. Where it cannot be played, or
+// too little is lent for its chip, nothing changes.
 pub fn advance(
     s: Session,
     tape: &[u8],
     memory: &mut [u8],
     area: &mut [u8],
     output: &mut [u8],
-) -> Turn {
+) -> Turn
+    ensures { λ r. ⌜ turnedOf r (now (memory .exit)) (now (area .exit)) (now (output .exit)) ≡ turnOf s (now (tape .entry)) (lends (now (memory .entry)) (now (area .entry))) (now (output .entry)) ⌝ }
+{
     let d = s.device;
     let f = found_at(tape, s.at);
     let e = f.entry;
-    let size = memory_for(e, s.memory);
-    let edge = area_for(e, s.area);
+    let b = bytes_for(e, s.socket);
+    let m = b.memory;
+    let a = b.area;
+    let size = m.0;
+    let edge = a.0;
     if !is_good(s.chip, e) {
         return idle(s, e);
     }
@@ -96,19 +114,8 @@ pub fn advance(
         session: Session {
             at: f.next,
             chip: true,
-            memory: size,
-            area: edge,
+            socket: b,
             device: next,
         },
-    }
-}
-
-fn idle(s: Session, e: Entry) -> Turn {
-    let d = s.device;
-    Turn {
-        good: false,
-        entry: e,
-        outcome: device::unclocked(Answer::Size, d),
-        session: s,
     }
 }

@@ -11,6 +11,7 @@ use borrow.Author.Tests.{leb-false, ltb-false}
 use Rattle.paper.specs.Transaction.{World}
 use Rattle.tape.specs.declared.Entry.{Entry}
 use Rattle.tape.specs.declared.Entry.the-variants.{End, Bad}
+use Rattle.tape.specs.declared.Fault.the-variants.{Cut}
 use Rattle.tape.specs.declared.Found.{Found}
 use Rattle.tape.specs.Tape.{wordAt, entryFor, found, nothingBut, between, foundOf}
 use Rattle.tape.specs.Play.{showing}
@@ -22,7 +23,7 @@ record Within (tape : List ℕ) (f : Found) : Type 0 where
 
 within-by : (tape : List ℕ) (at long : ℕ) (e : Entry) (a b c : Bool)
     → leb (length tape) at ≡ a → ltb (length tape - at) 4 ≡ b → ltb (length tape - at - 4) long ≡ c
-    → Within tape (cond a (nothingBut End) (cond b (nothingBut Bad) (cond c (nothingBut Bad) (found e (at + 4) (at + 4 + long)))))
+    → Within tape (cond a (nothingBut End) (cond b (nothingBut (Bad Cut)) (cond c (nothingBut (Bad Cut)) (found e (at + 4) (at + 4 + long)))))
 within-by tape at long e true b c p q r = record { first = omega arith; last = omega arith }
 within-by tape at long e false true c p q r = record { first = omega arith; last = omega arith }
 within-by tape at long e false false true p q r = record { first = omega arith; last = omega arith }

@@ -1,3 +1,4 @@
 pub mod Tape
 pub mod Play
 pub mod Laws
+pub mod Unique

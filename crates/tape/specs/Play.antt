@@ -4,6 +4,8 @@ use mathlib.Core.Bool.{Bool, true, false, cond}
 use mathlib.Core.List.{List}
 use lib.Dec.{ltb}
 use lib.ListN.{length, replicate}
+use Rattle.units.specs.declared.Bytes.{Bytes}
+use Rattle.units.specs.Units.{bytes}
 use Rattle.parts.specs.declared.Part.{Part}
 use Rattle.parts.specs.declared.Part.the-variants.{M, P}
 use Rattle.parts.specs.Parts.{partOf, areaOf}
@@ -22,17 +24,17 @@ use Rattle.tape.specs.Tape.{between, foundOf}
 -- a record that can be played; 1 and 2 want a chip in the socket
 abbrev pub isGood : Bool → Entry → Bool
 isGood chip End = false
-isGood chip Bad = false
+isGood chip (Bad fault) = false
 isGood chip Transaction = chip
 isGood chip PowerCycle = chip
 isGood chip (Fresh part n) = true
 
 -- the bytes of memory and of area that a chip has
-unfoldable pub memoryOf : ℕ → ℕ
-memoryOf n = cond (ltb 24 n) 0 (memorySize n .0)
+unfoldable pub memoryOf : ℕ → Bytes
+memoryOf n = cond (ltb 24 n) (bytes 0) (memorySize n)
 
 abbrev pub socketOf : ℕ → ℕ → Socket
-socketOf part n = record { memory = memoryOf n; area = areaOf (partOf part) .0 }
+socketOf part n = record { memory = memoryOf n; area = areaOf (partOf part) }
 
 -- a fresh chip, its identity and numbers 0
 abbrev pub freshFor : Part → ℕ → Device
@@ -49,7 +51,7 @@ showing out w = record { answer = w .answer; counts = w .counts; device = w .dev
 -- WHAT A RECORD DOES: where there is none to be played, nothing changes
 abbrev pub playOf : Entry → Device → Lent → List ℕ → List ℕ → World
 playOf End d l xs out = refusal Size d l out
-playOf Bad d l xs out = refusal Size d l out
+playOf (Bad fault) d l xs out = refusal Size d l out
 playOf Transaction d l xs out = transactOf d l xs out
 playOf PowerCycle d l xs out = showing out (powerOf d l)
 playOf (Fresh part n) d l xs out = record { answer = Done; counts = noCounts; device = freshFor (partOf part) n; lent = wiped l; output = out }

@@ -7,6 +7,7 @@ use lib.ListN.{length, getD, take, drop}
 use Rattle.parts.specs.Parts.{knownPart}
 use Rattle.tape.specs.declared.Entry.{Entry}
 use Rattle.tape.specs.declared.Entry.the-variants.{End, Bad, Transaction, PowerCycle, Fresh}
+use Rattle.tape.specs.declared.Fault.the-variants.{Cut, Strange, Samples, Power, Chip}
 use Rattle.tape.specs.declared.Found.{Found}
 
 -- two bytes, the low one first
@@ -15,14 +16,14 @@ wordAt tape at = getD tape at 0 + 256 * getD tape (at + 1) 0
 
 -- kind 3: the part, and an n of 10 to 15 though larger chips exist
 unfoldable pub freshEntry : ℕ → ℕ → Entry
-freshEntry part n = cond (not (knownPart part)) Bad (cond (ltb n 10) Bad (cond (ltb 15 n) Bad (Fresh part n)))
+freshEntry part n = cond (not (knownPart part)) (Bad Chip) (cond (ltb n 10) (Bad Chip) (cond (ltb 15 n) (Bad Chip) (Fresh part n)))
 
 -- kinds 1, 2 and 3, each with the payload that it takes
 unfoldable pub entryFor : ℕ → List ℕ → Entry
 entryFor kind payload =
-    cond (eqb kind 1) (cond (ltb 4096 (length payload)) Bad Transaction)
-    (cond (eqb kind 2) (cond (eqb (length payload) 0) PowerCycle Bad)
-    (cond (eqb kind 3) (cond (eqb (length payload) 2) (freshEntry (getD payload 0 0) (getD payload 1 0)) Bad) Bad))
+    cond (eqb kind 1) (cond (ltb 4096 (length payload)) (Bad Samples) Transaction)
+    (cond (eqb kind 2) (cond (eqb (length payload) 0) PowerCycle (Bad Power))
+    (cond (eqb kind 3) (cond (eqb (length payload) 2) (freshEntry (getD payload 0 0) (getD payload 1 0)) (Bad Chip)) (Bad Strange)))
 
 abbrev pub found : Entry → ℕ → ℕ → Found
 found entry from next = record { entry = entry; from = from; next = next }
@@ -40,6 +41,6 @@ foundOf tape at =
     let from = at + 4 in
     let next = from + wordAt tape at in
     cond (leb (length tape) at) (nothingBut End)
-    (cond (ltb (length tape - at) 4) (nothingBut Bad)
-    (cond (ltb (length tape - at - 4) (wordAt tape at)) (nothingBut Bad)
+    (cond (ltb (length tape - at) 4) (nothingBut (Bad Cut))
+    (cond (ltb (length tape - at - 4) (wordAt tape at)) (nothingBut (Bad Cut))
     (found (entryFor (wordAt tape (at + 2)) (between tape from next)) from next)))

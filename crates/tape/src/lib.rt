@@ -12,12 +12,22 @@ use judging::Outcome;
 use parts::Part;
 use record::Answer;
 use record::Device;
+use units::Bytes;
 
-// What a record asks for. A bad one is cut short, has a payload that its kind does not take, or has no kind
-// that there is.
+// What is wrong with a bad record: it is cut short, it is of a kind that there is not, or its payload is not one of its
+// kind, which is a transaction's, a power cycle's or a fresh chip's.
+pub enum Fault {
+    Cut,
+    Strange,
+    Samples,
+    Power,
+    Chip,
+}
+
+// What a record asks for.
 pub enum Entry {
     End,
-    Bad,
+    Bad(Fault),
     Transaction,
     PowerCycle,
     Fresh { part: u8, n: u8 },
@@ -54,13 +64,13 @@ fn fresh_entry(part: u8, n: u8) -> Entry
     ensures { λ r. ⌜ r ≡ freshEntry part n ⌝ }
 {
     if !Part::is_known(part) {
-        return Entry::Bad;
+        return Entry::Bad(Fault::Chip);
     }
     if n < 10 {
-        return Entry::Bad;
+        return Entry::Bad(Fault::Chip);
     }
     if 15 < n {
-        return Entry::Bad;
+        return Entry::Bad(Fault::Chip);
     }
     Entry::Fresh { part, n }
 }
@@ -71,21 +81,21 @@ fn entry_for(kind: usize, payload: &[u8]) -> Entry
 {
     if kind == 1 {
         if 4096 < payload.len() {
-            return Entry::Bad;
+            return Entry::Bad(Fault::Samples);
         }
         return Entry::Transaction;
     }
     if kind == 2 {
         if payload.len() != 0 {
-            return Entry::Bad;
+            return Entry::Bad(Fault::Power);
         }
         return Entry::PowerCycle;
     }
     if kind != 3 {
-        return Entry::Bad;
+        return Entry::Bad(Fault::Strange);
     }
     if payload.len() != 2 {
-        return Entry::Bad;
+        return Entry::Bad(Fault::Chip);
     }
     fresh_entry(payload[0], payload[1])
 }
@@ -99,12 +109,12 @@ pub fn entry_at(tape: &[u8], at: usize) -> Found
         return nothing(Entry::End);
     }
     if n - at < 4 {
-        return nothing(Entry::Bad);
+        return nothing(Entry::Bad(Fault::Cut));
     }
     let long = word_at(tape, at);
     let kind = word_at(tape, at + 2);
     if n - at - 4 < long {
-        return nothing(Entry::Bad);
+        return nothing(Entry::Bad(Fault::Cut));
     }
     let from = at + 4;
     let next = from + long;
@@ -114,8 +124,8 @@ pub fn entry_at(tape: &[u8], at: usize) -> Found
 
 // The bytes that a chip has.
 pub struct Socket {
-    pub memory: usize,
-    pub area: usize,
+    pub memory: Bytes,
+    pub area: Bytes,
 }
 
 // Whether a record can be played: transactions and power cycles want a chip in the socket.
@@ -124,7 +134,7 @@ pub fn is_good(chip: bool, e: Entry) -> bool
 {
     match e {
         Entry::End => false,
-        Entry::Bad => false,
+        Entry::Bad(_) => false,
         Entry::Transaction => chip,
         Entry::PowerCycle => chip,
         Entry::Fresh { part: _, n: _ } => true,
@@ -132,23 +142,22 @@ pub fn is_good(chip: bool, e: Entry) -> bool
 }
 
 // The bytes of memory, none where no chip is so large, and of area.
-fn memory_of(n: u8) -> usize
+fn memory_of(n: u8) -> Bytes
     ensures { λ r. ⌜ r ≡ memoryOf n ⌝ }
 {
     if 24 < n {
-        return 0;
+        return Bytes(0);
     }
-    places::memory_size(n).0
+    places::memory_size(n)
 }
 
 pub fn socket_of(part: u8, n: u8) -> Socket
     ensures { λ r. ⌜ r ≡ socketOf part n ⌝ }
 {
     let p = Part::of(part);
-    let edge = p.area();
     Socket {
         memory: memory_of(n),
-        area: edge.0,
+        area: p.area(),
     }
 }
 
@@ -175,7 +184,7 @@ pub fn play(
 {
     match e {
         Entry::End => device::unclocked(Answer::Size, d),
-        Entry::Bad => device::unclocked(Answer::Size, d),
+        Entry::Bad(_) => device::unclocked(Answer::Size, d),
         Entry::Transaction => device::transact(d, memory, area, samples, output),
         Entry::PowerCycle => device::power_cycle(d, memory, area),
         Entry::Fresh { part, n } => {

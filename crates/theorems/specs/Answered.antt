@@ -13,7 +13,7 @@ use Rattle.basis.specs.Truth.{untrue, neither}
 use Rattle.units.specs.declared.Clocks.{Clocks}
 use Rattle.units.specs.declared.Bytes.{Bytes}
 use Rattle.units.specs.declared.Wires.{Wires}
-use Rattle.units.specs.Units.{clocks, bytes, wiresOf, perByte}
+use Rattle.units.specs.Units.{clocks, bytes, wiresOf, perByte, fewer}
 use Rattle.parts.specs.Parts.{partOf}
 use Rattle.opcodes.specs.declared.Kind.{Kind}
 use Rattle.commands.specs.declared.plans.Body.{Body}
@@ -24,24 +24,25 @@ use Rattle.record.specs.declared.Answer.the-variants.{Done}
 use Rattle.record.specs.declared.Device.{Device}
 use Rattle.record.specs.Devices.{modeWires, settingOf}
 use Rattle.record.specs.declared.Setting.{Setting}
+use Rattle.record.specs.Answers.{isDone, refuses}
 use Rattle.paper.specs.InForce.{unknown, asleepFor, commandClocks, addressLength, addressClocks, wiresFor}
 use Rattle.paper.specs.Reading.{first, many, dataPart, restPart, Parts, partsOf}
 use Rattle.paper.specs.Storing.{Lent}
 use Rattle.paper.specs.Driving.{byteRead, levelAt, drivenAt, along}
-use Rattle.paper.specs.Answers.{shutData, firstOf, fewer, judge}
+use Rattle.paper.specs.Answers.{shutData, firstOf, judge}
 use Rattle.paper.specs.Transaction as tx
-use Rattle.paper.specs.Transaction.{World, clockedOf, roomFor, sampled, factsOf, isDone, over, transactOf}
+use Rattle.paper.specs.Transaction.{World, clockedOf, roomFor, sampled, factsOf, over, transactOf}
 use Rattle.paper.specs.Building.{Order, kindAsked, asked, builtOf, buildRows, Told, buildOf}
 use Rattle.paper.specs.Collecting.{collectOf}
 use Rattle.theorems.specs.ExactOrder.{past, table, exact-order, Clear, no-row, first-among, clear-rows}
-use Rattle.theorems.specs.Refused.{refuses, not-refused}
+use Rattle.theorems.specs.Refused.{not-refused}
 use Rattle.theorems.specs.Driven.{reads, blank, three, driven-length}
 use Rattle.theorems.specs.Sent.{sampled-all, sampled-silent, sampled-spread}
 use Rattle.theorems.specs.Bytewise.{read-at}
 use Rattle.theorems.specs.Heard.{bytesFrom, bytes-same, leveled, group, driven, gathered}
 use Rattle.theorems.specs.Planned.{addressIn, read-in, alike, calm}
-use Rattle.theorems.specs.Built.{Suits, allowed, unrefused, body-same, sentCommand, sentAddress, sentWait, sentData, built-so, command-full, address-full, wait-full, command-spelled, address-spelled, parts-built, shown, Carried, carried}
-use Rattle.theorems.specs.Meant.{Spelled, Meant, Ready, sent, faultless}
+use Rattle.theorems.specs.Built.{Suits, allowed, unrefused, body-same, sentCommand, sentAddress, sentWait, sentData, built-so, command-full, address-full, wait-full, command-spelled, address-spelled, parts-built, bytesDriven, Carried, carried}
+use Rattle.theorems.specs.Meant.{Spelled, Meant, Lendable, sent, faultless}
 
 -- ---- what the host answered 0 to
 either-answer : {U : Type 0} (b : Bool) (r t : Told U) (v : Answer) → r .answer ≡ v → t .answer ≡ v → cond b r t .answer ≡ v
@@ -123,7 +124,7 @@ module _ (o : Order) (room : List ℕ) (done : buildOf o room .answer ≡ Done) 
         (address-spelled o s suits known (no-refusal .1 .0)) (address-full o s suits known) (wait-full o s suits known)
         ∙ rw (body-same o s suits known)
 
-    module _ (l : Lent) (out : List ℕ) (r : Ready d l built out) where
+    module _ (l : Lent) (out : List ℕ) (r : Lendable d l built out) where
       short-enough : length built ≤ 65535
       short-enough = ltb-false 65535 (length built) (neither (ltb 65535 (length built)) (ltb (length room) (length built)) (no-refusal .1 .1 .1 .1 .1 .0) .0)
 
@@ -182,7 +183,7 @@ module _ (o : Order) (room : List ℕ) (done : buildOf o room .answer ≡ Done) 
 
       module _ (e : reads body ≡ true) where
         abbrev pub number : ℕ
-        number = shown body (o .wanted) .0
+        number = bytesDriven body (o .wanted) .0
 
         no-burst : (b : Body) (any : Bool) → reads b ≡ true → shutData b any ≡ false
         no-burst Bodies.Nothing any e = refl

@@ -2,7 +2,7 @@
 -- Assumes nothing.
 use mathlib.Core.Path.{_≡_, refl, sym, ap, _∙_}
 use Prim.Native.Nat.{ℕ, zero, suc, _*_, _/_, _<_, min}
-use native.Mathlib.Nat.{one-mul, mul-div-cancel, zero-min, min-zero, suc-min-suc, min-eq-left}
+use native.Mathlib.Nat.{mul-div-cancel, zero-min, min-zero, suc-min-suc, min-eq-left}
 use native.Mathlib.Omega.{arith}
 use mathlib.Core.Bool.{Bool, true, false, cond, not, _&&_}
 use mathlib.Core.List.{List, [], _∷_, _++_}
@@ -14,10 +14,10 @@ use Rattle.basis.specs.Truth.{untrue}
 use Rattle.units.specs.declared.Clocks.{Clocks}
 use Rattle.units.specs.declared.Bytes.{Bytes}
 use Rattle.units.specs.declared.Wires.{Wires}
-use Rattle.units.specs.Units.{clocks, bytes, perByte}
+use Rattle.units.specs.Units.{clocks, bytes, perByte, clocksOf}
 use Rattle.units.specs.Laws.{perByte-pos}
 use Rattle.units.specs.declared.Wires.the-variants.{One, Two, Four}
-use Rattle.wires.specs.Bits.{gatherFrom, gather, spread}
+use Rattle.wires.specs.Bits.{gatherFrom, gather, spelled}
 use Rattle.wires.specs.Laws.{spread-length}
 use Rattle.parts.specs.Parts.{partOf, knownPart}
 use Rattle.opcodes.specs.declared.Kind.{Kind}
@@ -27,7 +27,7 @@ use Rattle.commands.specs.declared.plans.Address.{Address}
 use Rattle.commands.specs.declared.plans.Address.the-variants.{Absent, InMemory, InArea, InMap, LowNibbleZero, Ignored}
 use Rattle.commands.specs.declared.plans.Body.{Body}
 use Rattle.commands.specs.declared.plans.Body.the-variants.{Nothing, FixedRead, AnyRead, FixedWrite, AnyWrite}
-use Rattle.commands.specs.Plans.{addressOf, waitOf, bodyOf}
+use Rattle.commands.specs.Plans.{addressOf, waitOf, bodyOf, waitsByRegister}
 use Rattle.record.specs.declared.Setting.{Setting}
 use Rattle.values.specs.States.{modeAllowed}
 use Rattle.places.specs.Addresses.{allowedOf}
@@ -36,7 +36,7 @@ use Rattle.paper.specs.Reading.{many, kindRead, addressRead, dataPart, restPart
 use Rattle.paper.specs.Answers.{shortData, longRest}
 use Rattle.paper.specs.Laws.{sent-many}
 use Rattle.paper.specs.Transaction.{sampled}
-use Rattle.paper.specs.Building.{Order, manyBytes, sentOn, kindAsked, asked, addressed, beyond, waitsByRegister, tooFew, tooMany, spreadAll, silent, dataSent, builtOf}
+use Rattle.paper.specs.Building.{Order, manyBytes, sentOn, kindAsked, asked, addressed, beyond, tooFew, tooMany, spreadAll, silent, dataSent, builtOf}
 use Rattle.theorems.specs.Driven.{reads, blank}
 use Rattle.theorems.specs.Sent.{bytewise, sampled-silent, sampled-data, byte-read, address-read, data-read}
 use Rattle.theorems.specs.Planned.{addressIn, allowed-in, body-in, wait-by, Alike}
@@ -137,10 +137,10 @@ module _ (o : Order) (s : Setting) (m : Suits o s) (known : unknown (kindAsked o
   v = wiresFor s k
 
   abbrev pub sentCommand : List ℕ
-  sentCommand = spread (s .wires) (perByte (s .wires)) (o .opcode)
+  sentCommand = spelled (s .wires) (perByte (s .wires)) (o .opcode)
 
   abbrev pub sentAddress : List ℕ
-  sentAddress = spread v (addressLength (addressOf k) v .0) (o .address)
+  sentAddress = spelled v (addressLength (addressOf k) v .0) (o .address)
 
   abbrev pub sentWait : List ℕ
   sentWait = silent (waitOf k (s .wires) (o .cr2))
@@ -154,7 +154,7 @@ module _ (o : Order) (s : Setting) (m : Suits o s) (known : unknown (kindAsked o
 
   pub command-full : length sentCommand ≡ commandClocks s .0
   unfolding commandClocks
-  command-full = spread-length (s .wires) (perByte (s .wires)) (o .opcode) ∙ sym (one-mul (perByte (s .wires)))
+  command-full = spread-length (s .wires) (perByte (s .wires)) (o .opcode)
 
   pub address-full : length sentAddress ≡ addressClocks s k .0
   unfolding addressClocks
@@ -169,13 +169,13 @@ module _ (o : Order) (s : Setting) (m : Suits o s) (known : unknown (kindAsked o
 
   -- the address that the samples spell is the one given, or 0 where there is none
   pub address-spelled : beyond k (o .address) ≡ false → gather v sentAddress ≡ n
-  unfolding beyond gatherFrom spread
+  unfolding beyond gatherFrom spelled
   address-spelled e = by (addressOf k) e
     where
-      fits : (ltb 0xFFFFFF (o .address)) ≡ false → gather v (spread v (3 * perByte v) (o .address)) ≡ o .address
+      fits : (ltb 0xFFFFFF (o .address)) ≡ false → gather v (spelled v (3 * perByte v) (o .address)) ≡ o .address
       fits e = address-read v (o .address) (let h = ltb-false 0xFFFFFF (o .address) e in omega arith)
 
-      by : (a : Address) → (addressed a && ltb 0xFFFFFF (o .address)) ≡ false → gather v (spread v (addressLength a v .0) (o .address)) ≡ addressIn a (o .address)
+      by : (a : Address) → (addressed a && ltb 0xFFFFFF (o .address)) ≡ false → gather v (spelled v (addressLength a v .0) (o .address)) ≡ addressIn a (o .address)
       by Absent e = refl
       by InMemory e = fits e
       by InArea e = fits e
@@ -193,19 +193,20 @@ writes (FixedWrite b) = true
 writes AnyWrite = true
 
 -- how many bytes a read of so many drives: of a register no more than it has
-abbrev pub shown : Body → Bytes → Bytes
-shown Nothing asked = bytes 0
-shown (FixedRead b) asked = bytes (min (asked .0) (b .0))
-shown AnyRead asked = asked
-shown (FixedWrite b) asked = bytes 0
-shown AnyWrite asked = bytes 0
+abbrev pub bytesDriven : Body → Bytes → Bytes
+bytesDriven Nothing asked = bytes 0
+bytesDriven (FixedRead b) asked = bytes (min (asked .0) (b .0))
+bytesDriven AnyRead asked = asked
+bytesDriven (FixedWrite b) asked = bytes 0
+bytesDriven AnyWrite asked = bytes 0
 
 -- what the device has of the data that is sent
 pub record Carried (b : Body) (w : Wires) (o : Order) (xs : List ℕ) : Type 0 where
   pub enough : shortData b w (many (dataPart b w xs)) ≡ false
   pub ended : longRest b (many (restPart b w xs)) ≡ false
   pub written : writes b ≡ true → dataBytes w (dataPart b w xs) ≡ o .written
-  pub wanted : reads b ≡ true → dataPart b w xs ≡ blank (shown b (o .wanted) .0 * perByte w)
+  pub sentAll : writes b ≡ true → many (dataPart b w xs) ≡ clocksOf w (manyBytes (o .written))
+  pub wanted : reads b ≡ true → dataPart b w xs ≡ blank (bytesDriven b (o .wanted) .0 * perByte w)
   pub samples : sampled xs ≡ true
 
 few-of : (w : Wires) (b n : ℕ) → min (b * perByte w) (n * perByte w) ≡ min n b * perByte w
@@ -225,17 +226,18 @@ whole-data w bs = rw (sent-many w bs) (mul-div-cancel (length bs) (perByte-pos w
 module _ (w : Wires) (o : Order) (h : bytewise (o .written) ≡ true) where
   pub carried : (b a : Body) → Alike b a → tooFew a (o .wanted) (manyBytes (o .written)) ≡ false → tooMany a (o .wanted) (manyBytes (o .written)) ≡ false
       → Carried b w o (dataSent a w o)
-  carried Nothing a e few lots = rw e (record { enough = refl; ended = refl; written = λ z. untrue z; wanted = λ z. untrue z; samples = sampled-silent 0 })
+  carried Nothing a e few lots = rw e (record { enough = refl; ended = refl; written = λ z. untrue z; sentAll = λ z. untrue z; wanted = λ z. untrue z; samples = sampled-silent 0 })
   carried (FixedRead b) a (c, e) few lots =
       rw e (record {
         enough = refl;
         ended = refl;
         written = λ z. untrue z;
+        sentAll = λ z. untrue z;
         wanted = λ z. take-blank (b .0 * perByte w) (o .wanted .0 * perByte w) ∙ ap blank (few-of w (b .0) (o .wanted .0));
         samples = sampled-silent (o .wanted .0 * perByte w);
       })
   carried AnyRead a e few lots =
-      rw e (record { enough = refl; ended = refl; written = λ z. untrue z; wanted = λ z. refl; samples = sampled-silent (o .wanted .0 * perByte w) })
+      rw e (record { enough = refl; ended = refl; written = λ z. untrue z; sentAll = λ z. untrue z; wanted = λ z. refl; samples = sampled-silent (o .wanted .0 * perByte w) })
   carried (FixedWrite b) a e few lots =
       let xs = spreadAll w (o .written) in
       let few₁ = rw e at few in
@@ -248,6 +250,7 @@ module _ (w : Wires) (o : Order) (h : bytewise (o .written) ≡ true) where
         enough = rw (t, whole-data w (o .written)) few₁;
         ended = rw r refl;
         written = λ z. rw t (data-read w (o .written) h);
+        sentAll = λ z. rw t (ap clocks (sent-many w (o .written)));
         wanted = λ z. untrue z;
         samples = sampled-data w (o .written);
       })
@@ -257,12 +260,13 @@ module _ (w : Wires) (o : Order) (h : bytewise (o .written) ≡ true) where
         enough = rw (whole-data w (o .written)) few₁;
         ended = refl;
         written = λ z. data-read w (o .written) h;
+        sentAll = λ z. ap clocks (sent-many w (o .written));
         wanted = λ z. untrue z;
         samples = sampled-data w (o .written);
       })
 
 -- where no more is asked for than there is, all of it is driven
-pub shown-all : (b : Body) (asked written : Bytes) → reads b ≡ true → tooMany b asked written ≡ false → shown b asked ≡ asked
+pub shown-all : (b : Body) (asked written : Bytes) → reads b ≡ true → tooMany b asked written ≡ false → bytesDriven b asked ≡ asked
 shown-all Nothing asked written e few = untrue e
 shown-all (FixedRead b) asked written e few = ap bytes (min-eq-left (ltb-false (b .0) (asked .0) few))
 shown-all AnyRead asked written e few = refl

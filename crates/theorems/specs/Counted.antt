@@ -2,7 +2,7 @@
 -- the definition, or what is left where the clocks end early.
 -- Assumes nothing.
 use mathlib.Core.Path.{_≡_, refl, ap, _∙_}
-use Prim.Native.Nat.{ℕ, _*_, _-_, min}
+use Prim.Native.Nat.{ℕ, _+_, _*_, _-_, min}
 use native.Mathlib.Omega.{arith}
 use mathlib.Core.Bool.{false}
 use mathlib.Core.List.{List, _++_, append-nil}
@@ -17,11 +17,12 @@ use Rattle.counts.specs.Counts.{total}
 use Rattle.record.specs.declared.Device.{Device}
 use Rattle.record.specs.declared.Setting.{Setting}
 use Rattle.record.specs.Devices.{settingOf}
+use Rattle.record.specs.Answers.{refuses}
 use Rattle.paper.specs.InForce.{commandClocks, wiresFor, addressClocks, waitClocks, bodyFor}
 use Rattle.paper.specs.Reading.{many, dataPart, restPart, Parts, partsOf}
 use Rattle.paper.specs.Storing.{Lent}
 use Rattle.paper.specs.Transaction.{factsOf, clockedOf, transactOf}
-use Rattle.theorems.specs.Refused.{refuses, not-refused}
+use Rattle.theorems.specs.Refused.{not-refused}
 
 -- ---- the parts, put together, are the samples
 abbrev pub together : Parts → List ℕ
@@ -83,6 +84,7 @@ pub record Shares (s : Setting) (p : Parts) (xs : List ℕ) (c : Counts) : Type 
   pub body : c .body
       ≡ dataShare (bodyFor s (p .kind) (p .address)) (wiresFor s (p .kind))
       (less (less (less (many xs) (commandClocks s)) (addressClocks s (p .kind))) (waitClocks s (p .kind) (p .address)))
+  pub rest : c .rest ≡ less (less (less (less (many xs) (c .command)) (c .address)) (c .wait)) (c .body)
 
 data-share : (b : Body) (w : Wires) (xs : List ℕ) → many (dataPart b w xs) ≡ dataShare b w (many xs)
 data-share Nothing w xs = refl
@@ -90,6 +92,10 @@ data-share (FixedRead b) w xs = ap clocks (length-take (b .0 * perByte w) xs)
 data-share AnyRead w xs = refl
 data-share (FixedWrite b) w xs = ap clocks (length-take (b .0 * perByte w) xs)
 data-share AnyWrite w xs = refl
+
+-- what four of five leave of their sum
+last-of : (a b c d e n : ℕ) → a + b + c + d + e ≡ n → e ≡ n - a - b - c - d
+last-of a b c d e n h = omega arith
 
 -- EACH COUNT
 pub counts-are-shares : (d : Device) (l : Lent) (xs out : List ℕ) → refuses (transactOf d l xs out .answer) ≡ false
@@ -104,8 +110,10 @@ counts-are-shares d l xs out e =
     let e₁ = length-drop n₁ xs in
     let e₂ = length-drop n₂ (drop n₁ xs) ∙ ap (λ (k : ℕ). k - n₂) e₁ in
     let e₃ = length-drop n₃ (drop n₂ (drop n₁ xs)) ∙ ap (λ (k : ℕ). k - n₃) e₂ in
+    let sum = ap (λ (c : Clocks). c .0) (counts-add-up d l xs out e) in
     rw (not-refused d l xs out e)
     (record {
+      rest = ap clocks (last-of _ _ _ _ _ (length xs) (rw (not-refused d l xs out e) at sum));
       command = ap clocks (length-take n₁ xs);
       address = ap clocks (length-take n₂ (drop n₁ xs) ∙ ap (min n₂) e₁);
       wait = ap clocks (length-take n₃ (drop n₂ (drop n₁ xs)) ∙ ap (min n₃) e₂);

@@ -14,7 +14,7 @@ use lib.Seq.{getD-append-add}
 use borrow.Author.Tests.{leb-true, leb-false, ltb-true, ltb-false, lt-ltb, le-ltb}
 use Rattle.units.specs.declared.Clocks.{Clocks}
 use Rattle.units.specs.declared.Wires.{Wires}
-use Rattle.units.specs.Units.{clocks, wiresOf, wholeOf}
+use Rattle.units.specs.Units.{clocks, fewer, atMost, wiresOf, wholeOf}
 use Rattle.wires.specs.Bits.{groupOf}
 use Rattle.wires.specs.Levels.{drivenOf}
 use Rattle.wires.specs.LevelLaws.{driven-level, level-not-zero}
@@ -25,14 +25,15 @@ use Rattle.counts.specs.declared.Counts.{Counts}
 use Rattle.record.specs.declared.Answer.{Answer}
 use Rattle.record.specs.declared.Device.{Device}
 use Rattle.record.specs.Devices.{settingOf}
+use Rattle.record.specs.Answers.{isDone, refuses}
 use Rattle.paper.specs.InForce.{bodyFor, wiresFor}
 use Rattle.paper.specs.Reading.{Parts, partsOf}
 use Rattle.paper.specs.Storing.{Lent}
 use Rattle.paper.specs.Driving.{byteRead, levelAt, drivenAt, along}
 use Rattle.paper.specs.Answers.{judge}
 use Rattle.paper.specs.Transaction as tx
-use Rattle.paper.specs.Transaction.{World, factsOf, isDone, undriven, over, clockedOf, transactOf}
-use Rattle.theorems.specs.Refused.{refuses, not-refused}
+use Rattle.paper.specs.Transaction.{World, factsOf, undriven, around, over, clockedOf, transactOf}
+use Rattle.theorems.specs.Refused.{not-refused}
 use Rattle.theorems.specs.Counted.{together, parts-together}
 
 -- the command reads
@@ -44,14 +45,14 @@ reads (FixedWrite b) = false
 reads AnyWrite = false
 
 -- clock i, counted from 0, is a data clock by the counts
-abbrev pub before : Counts → ℕ
-before c = c .command .0 + c .address .0 + c .wait .0
+abbrev pub before : Counts → Clocks
+before c = clocks (c .command .0 + c .address .0 + c .wait .0)
 
-abbrev pub isData : Counts → ℕ → Bool
-isData c i = leb (before c) i && ltb i (before c + c .body .0)
+abbrev pub isData : Counts → Clocks → Bool
+isData c i = atMost (before c) i && fewer i (clocks (before c .0 + c .body .0))
 
 -- clock i is one that is driven: a data clock of a read that is done
-abbrev pub drives : Device → List ℕ → World → ℕ → Bool
+abbrev pub drives : Device → List ℕ → World → Clocks → Bool
 drives d xs w i =
     let p = partsOf (settingOf d) xs in
     isDone (w .answer) && (reads (bodyFor (settingOf d) (p .kind) (p .address)) && isData (w .counts) i)
@@ -189,12 +190,12 @@ driven-length d l xs v =
     middle-length p false = length-replicate (length (p .dataPart)) 0
 
     by : (p : Parts) (o : List ℕ) → length o ≡ length (p .dataPart)
-        → length (undriven (p .commandPart) ++ (undriven (p .addressPart) ++ (undriven (p .waitPart) ++ (o ++ undriven (p .restPart))))) ≡ length (together p)
+        → length (around p o) ≡ length (together p)
     by p o e = simp (length-append, length-replicate, e)
 
 -- DRIVEN
 pub driven : (d : Device) (l : Lent) (xs out : List ℕ) → refuses (transactOf d l xs out .answer) ≡ false → (i : ℕ) → i < length xs
-    → Says (drives d xs (transactOf d l xs out) i) (wiresFor (settingOf d) (partsOf (settingOf d) xs .kind)) (getD (transactOf d l xs out .output) i 0)
+    → Says (drives d xs (transactOf d l xs out) (clocks i)) (wiresFor (settingOf d) (partsOf (settingOf d) xs .kind)) (getD (transactOf d l xs out .output) i 0)
 unfolding clockedOf factsOf over tx.outputOf
 driven d l xs out e i h =
     let p = partsOf (settingOf d) xs in

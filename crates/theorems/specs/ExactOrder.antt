@@ -10,12 +10,12 @@ use Rattle.record.specs.declared.Answer.{Answer}
 use Rattle.record.specs.declared.Answer.the-variants.{Done, Size, Sample, State}
 use Rattle.record.specs.declared.Device.{Device}
 use Rattle.record.specs.Devices.{settingOf}
-use Rattle.record.specs.Answers.{answerNumber}
+use Rattle.record.specs.Answers.{answerNumber, isDone}
 use Rattle.values.specs.States.{validOf}
 use Rattle.paper.specs.Reading.{partsOf}
 use Rattle.paper.specs.Storing.{Lent}
 use Rattle.paper.specs.Answers.{firstOf, rows, judge}
-use Rattle.paper.specs.Transaction.{World, sizedFor, roomFor, sampled, factsOf, isDone, refusal, clockedOf, transactOf}
+use Rattle.paper.specs.Transaction.{World, sizedFor, roomFor, sampled, factsOf, refusal, clockedOf, transactOf}
 
 -- THE WHOLE TABLE, one test a row: the checks before a transaction, and then the rows of `paper`
 abbrev pub table : Device → Lent → List ℕ → List ℕ → List (Bool × Answer)

@@ -17,7 +17,7 @@ use Rattle.units.specs.declared.Wires.{Wires}
 use Rattle.units.specs.declared.Wires.the-variants.{One, Two, Four}
 use Rattle.units.specs.Units.{clocks, bytes, wiresOf, perByte, wholeOf}
 use Rattle.units.specs.Laws.{perByte-pos}
-use Rattle.wires.specs.Bits.{above, spread, groupOf}
+use Rattle.wires.specs.Bits.{above, spelled, groupOf}
 use Rattle.wires.specs.Laws.{spread-length}
 use Rattle.wires.specs.Levels.{levelOf, seenOf, drivenOf}
 use Rattle.wires.specs.LevelLaws.{seen-level, driven-level, level-not-zero}
@@ -143,8 +143,8 @@ module _ (w : Wires) where
         rw (c .0, c .1, e)
 
     -- the clocks of byte j carry the samples that spell it
-    byte-along : (n j i : ℕ) → i + n ≡ perByte w → along group (j * perByte w + i) (blank n) ≡ spread w n (f (bytes j))
-    unfolding along spread
+    byte-along : (n j i : ℕ) → i + n ≡ perByte w → along group (j * perByte w + i) (blank n) ≡ spelled w n (f (bytes j))
+    unfolding along spelled
     byte-along zero j i h = refl
     byte-along (suc n) j i h =
         let e : j * perByte w + i + 1 ≡ j * perByte w + (i + 1) = omega arith in
@@ -160,20 +160,20 @@ module _ (w : Wires) where
           let more : suc m * n ≡ n + m * n = omega (arith, suc-mul m n) in
           let split : blank (suc m * n) ≡ blank n ++ blank (m * n) =
           ap blank more ∙ sym (replicate-append-replicate n (m * n) 0) in
-          let here : along group t (blank n) ≡ spread w n (f (bytes j)) =
+          let here : along group t (blank n) ≡ spelled w n (f (bytes j)) =
           ap (λ (k : ℕ). along group k (blank n)) (sym (add-zero t)) ∙ byte-along n j 0 (omega arith) in
           let there : t + length (blank n) ≡ (j + 1) * n = omega (arith, blank-length n, suc-mul j n) in
-          let whole : along group t (blank (suc m * n)) ≡ spread w n (f (bytes j)) ++ along group ((j + 1) * n) (blank (m * n)) =
+          let whole : along group t (blank (suc m * n)) ≡ spelled w n (f (bytes j)) ++ along group ((j + 1) * n) (blank (m * n)) =
           ap (along group t) split
           ∙ along-append group t (blank n) (blank (m * n))
           ∙ ap (λ (l : List ℕ). l ++ along group (t + length (blank n)) (blank (m * n))) here
-          ∙ ap (λ (k : ℕ). spread w n (f (bytes j)) ++ along group k (blank (m * n))) there in
+          ∙ ap (λ (k : ℕ). spelled w n (f (bytes j)) ++ along group k (blank (m * n))) there in
           let rest = along group ((j + 1) * n) (blank (m * n)) in
           let k = spread-length w n (f (bytes j)) in
           rw (
             whole,
-            take-at (spread w n (f (bytes j))) rest n k,
-            drop-at (spread w n (f (bytes j))) rest n k,
+            take-at (spelled w n (f (bytes j))) rest n k,
+            drop-at (spelled w n (f (bytes j))) rest n k,
             byte-read w (f (bytes j)) (small (bytes j)),
             bytes-along m (j + 1),
           )

@@ -11,3 +11,4 @@ pub mod Built
 pub mod Meant
 pub mod Answered
 pub mod Understood
+pub mod Examples

@@ -2,30 +2,31 @@
 -- Assumes nothing.
 use mathlib.Core.Path.{_≡_}
 use Prim.Native.Nat.{ℕ, _<_, _≤_}
-use mathlib.Core.Bool.{Bool, true, false}
+use mathlib.Core.Bool.{Bool, true, false, not, _&&_}
 use mathlib.Core.List.{List}
+use lib.Dec.{eqb, leb}
 use lib.ListN.{length}
 use Rattle.units.specs.declared.Clocks.{Clocks}
 use Rattle.units.specs.declared.Wires.{Wires}
 use Rattle.units.specs.Units.{bytes}
 use Rattle.parts.specs.Parts.{partOf}
 use Rattle.commands.specs.declared.plans.Body.{Body}
-use Rattle.commands.specs.Plans.{laterWires, bodyOf}
+use Rattle.commands.specs.Plans.{laterWires, bodyOf, waitsByRegister}
 use Rattle.record.specs.declared.Answer.{Answer}
-use Rattle.record.specs.declared.Answer.the-variants.{Done, Size, Sample, State, Short, Unknown, Asleep, Address, Latch, Protected, Reserved, Long, Unarmed}
 use Rattle.record.specs.declared.Device.{Device}
 use Rattle.record.specs.Devices.{settingOf}
+use Rattle.record.specs.Answers.{answerNumber}
 use Rattle.values.specs.States.{validOf}
 use Rattle.paper.specs.InForce.{refusedAt}
 use Rattle.paper.specs.Reading.{first, many}
 use Rattle.paper.specs.Storing.{Lent}
 use Rattle.paper.specs.Driving.{byteRead}
 use Rattle.paper.specs.Transaction.{sizedFor}
-use Rattle.paper.specs.Building.{Order, sentOn, kindAsked, waitsByRegister, Told}
+use Rattle.paper.specs.Building.{Order, sentOn, kindAsked, Told}
 use Rattle.theorems.specs.Sent.{bytewise}
 use Rattle.theorems.specs.Bytewise.{Bytewise}
 use Rattle.theorems.specs.Heard.{bytesFrom}
-use Rattle.theorems.specs.Built.{shown}
+use Rattle.theorems.specs.Built.{bytesDriven}
 
 -- ---- the premises
 -- what the code's types say of an order
@@ -43,7 +44,7 @@ pub record Meant (o : Order) (d : Device) : Type 0 where
   pub allows : refusedAt (settingOf d) (kindAsked o) (o .address) ≡ false
 
 -- memory, area and output of the right size, all bytes
-pub record Ready (d : Device) (l : Lent) (xs out : List ℕ) : Type 0 where
+pub record Lendable (d : Device) (l : Lent) (xs out : List ℕ) : Type 0 where
   pub sized : sizedFor d l ≡ true
   pub room : length xs ≤ length out
   pub whole : Bytewise d l
@@ -62,20 +63,8 @@ bodyIn o = bodyOf (partOf (o .part)) (kindAsked o) (o .address)
 
 -- the bytes that an order's read drives, as the paper says
 abbrev pub bytesRead : Order → Device → Lent → List ℕ
-bytesRead o d l = bytesFrom (byteRead d (kindAsked o) (o .address) l) 0 (shown (bodyIn o) (o .wanted) .0)
+bytesRead o d l = bytesFrom (byteRead d (kindAsked o) (o .address) l) 0 (bytesDriven (bodyIn o) (o .wanted) .0)
 
 -- an answer that finds no fault with the clocks: none of 1 to 7 and 11
 abbrev pub faultless : Answer → Bool
-faultless Done = true
-faultless Size = false
-faultless Sample = false
-faultless State = false
-faultless Short = false
-faultless Unknown = false
-faultless Asleep = false
-faultless Address = false
-faultless Latch = true
-faultless Protected = true
-faultless Reserved = true
-faultless Long = false
-faultless Unarmed = true
+faultless v = not (leb 1 (answerNumber v) && leb (answerNumber v) 7) && not (eqb (answerNumber v) 11)

@@ -24,15 +24,15 @@ use Rattle.commands.specs.declared.plans.Address.the-variants.{Absent, InMemory
 use Rattle.commands.specs.declared.plans.Body.{Body}
 use Rattle.commands.specs.declared.plans.Body.the-variants.{Nothing, FixedRead, AnyRead, FixedWrite, AnyWrite}
 use Rattle.commands.specs.Registers.{mappedOf}
-use Rattle.commands.specs.Plans.{fixedWaits, waitTable, columnOf, waitOf, addressOf, mappedBody, bodyOf}
+use Rattle.commands.specs.Plans.{fixedWaits, waitTable, columnOf, waitOf, addressOf, mappedBody, bodyOf, waitsByRegister}
 use Rattle.record.specs.declared.Device.{Device}
 use Rattle.record.specs.declared.Setting.{Setting}
-use Rattle.record.specs.Latches.{latchNeeded, latchMissing}
+use Rattle.record.specs.Latches.{kindNeeds, latchMissing}
 use Rattle.places.specs.Addresses.{isMapped, allowedOf}
 use Rattle.paper.specs.Storing.{Lent}
 use Rattle.paper.specs.Driving.{byteRead}
 use Rattle.paper.specs.Answers.{unarmed, reservedFor}
-use Rattle.paper.specs.Building.{asked, addressed, waitsByRegister}
+use Rattle.paper.specs.Building.{asked, addressed}
 use Rattle.theorems.specs.Driven.{reads}
 
 -- ---- the address that the device reads: the one given, and 0 where the command has none
@@ -138,7 +138,7 @@ alike s WriteArea a e = refl
 abbrev pub Calm : Part → ℕ → Bool → Bool → List ℕ → Kind → Type 0
 Calm p cr4 latch armed v k = (unarmed armed k ≡ false) × ((latchMissing p cr4 latch k ≡ false) × (reservedFor p k v ≡ false))
 
-no-latch : (p : Part) (cr4 : ℕ) (latch : Bool) (k : Kind) → latchNeeded M cr4 k ≡ false → latchMissing p cr4 latch k ≡ false
+pub no-latch : (p : Part) (cr4 : ℕ) (latch : Bool) (k : Kind) → kindNeeds cr4 k ≡ false → latchMissing p cr4 latch k ≡ false
 unfolding latchMissing
 no-latch M cr4 latch k e = rw e
 no-latch P cr4 latch k e = refl

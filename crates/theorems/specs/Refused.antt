@@ -6,31 +6,15 @@ use mathlib.Core.Bool.{Bool, true, false, cond, not, _&&_}
 use mathlib.Core.List.{List, []}
 use Rattle.basis.specs.Truth.{untrue}
 use Rattle.counts.specs.Counts.{noCounts}
-use Rattle.record.specs.declared.Answer.{Answer}
-use Rattle.record.specs.declared.Answer.the-variants.{Done, Size, Sample, State, Short, Unknown, Asleep, Address, Latch, Protected, Reserved, Long, Unarmed}
+use Rattle.record.specs.declared.Answer.the-variants.{Done, Size, Sample, State}
 use Rattle.record.specs.declared.Device.{Device}
 use Rattle.record.specs.Devices.{settingOf}
+use Rattle.record.specs.Answers.{refuses}
 use Rattle.values.specs.States.{validOf}
 use Rattle.paper.specs.Storing.{Lent}
 use Rattle.paper.specs.Answers.{Facts, rows, judge}
 use Rattle.paper.specs.Transaction.{World, sizedFor, roomFor, sampled, refusal, clockedOf, transactOf, powerOf}
 use Rattle.theorems.specs.ExactOrder.{first-among}
-
--- 1, 2 and 3
-abbrev pub refuses : Answer → Bool
-refuses Done = false
-refuses Size = true
-refuses Sample = true
-refuses State = true
-refuses Short = false
-refuses Unknown = false
-refuses Asleep = false
-refuses Address = false
-refuses Latch = false
-refuses Protected = false
-refuses Reserved = false
-refuses Long = false
-refuses Unarmed = false
 
 -- nothing has changed
 pub record Untouched (d : Device) (l : Lent) (out : List ℕ) (w : World) : Type 0 where

@@ -16,7 +16,7 @@ use Rattle.units.specs.declared.Wires.{Wires}
 use Rattle.units.specs.declared.Wires.the-variants.{One, Two, Four}
 use Rattle.units.specs.Units.{bytes, wiresOf, perByte}
 use Rattle.units.specs.Laws.{bits-of-byte, perByte-pos}
-use Rattle.wires.specs.Bits.{gather, above, spread}
+use Rattle.wires.specs.Bits.{gather, above, spelled}
 use Rattle.wires.specs.Laws.{spread-length, gather-spread}
 use Rattle.paper.specs.Reading.{bytesIn, dataBytes}
 use Rattle.paper.specs.Building.{spreadAll}
@@ -48,8 +48,8 @@ few-bits One = omega arith
 few-bits Two = omega arith
 few-bits Four = omega arith
 
-pub sampled-spread : (w : Wires) (n v : ℕ) → sampled (spread w n v) ≡ true
-unfolding sampled spread
+pub sampled-spread : (w : Wires) (n v : ℕ) → sampled (spelled w n v) ≡ true
+unfolding sampled spelled
 sampled-spread w zero v = refl
 sampled-spread w (suc n) v =
     rw (lt-ltb (above w n v) 16 (lt-of-lt-of-le (mod-lt (v / 2 ^ (wiresOf w * n)) (pow-pos (wiresOf w))) (few-bits w))) (sampled-spread w n v)
@@ -57,11 +57,11 @@ sampled-spread w (suc n) v =
 pub sampled-data : (w : Wires) (bs : List ℕ) → sampled (spreadAll w bs) ≡ true
 unfolding spreadAll sampled
 sampled-data w [] = refl
-sampled-data w (b ∷ bs) = sampled-append (spread w (perByte w) b) (spreadAll w bs) (sampled-spread w (perByte w) b) (sampled-data w bs)
+sampled-data w (b ∷ bs) = sampled-append (spelled w (perByte w) b) (spreadAll w bs) (sampled-spread w (perByte w) b) (sampled-data w bs)
 
 -- ---- numbers
 -- a byte is gathered from the samples that spell it
-pub byte-read : (w : Wires) (b : ℕ) → b < 256 → gather w (spread w (perByte w) b) ≡ b
+pub byte-read : (w : Wires) (b : ℕ) → b < 256 → gather w (spelled w (perByte w) b) ≡ b
 byte-read w b h = gather-spread w (perByte w) b (rw (bits-of-byte w) (omega arith)) (rw (bits-of-byte w) h)
 
 -- and so is an address
@@ -70,7 +70,7 @@ three-bytes One = refl
 three-bytes Two = refl
 three-bytes Four = refl
 
-pub address-read : (w : Wires) (a : ℕ) → a < 2 ^ 24 → gather w (spread w (3 * perByte w) a) ≡ a
+pub address-read : (w : Wires) (a : ℕ) → a < 2 ^ 24 → gather w (spelled w (3 * perByte w) a) ≡ a
 address-read w a h = gather-spread w (3 * perByte w) a (rw (three-bytes w) (omega arith)) (rw (three-bytes w) h)
 
 -- ---- data
@@ -83,8 +83,8 @@ data-from w (b ∷ bs) e =
     let n = perByte w in
     let k = spread-length w n b in
     rw (
-      take-at (spread w n b) (spreadAll w bs) n k,
-      drop-at (spread w n b) (spreadAll w bs) n k,
+      take-at (spelled w n b) (spreadAll w bs) n k,
+      drop-at (spelled w n b) (spreadAll w bs) n k,
       byte-read w b (ltb-true b 256 (h .0)),
       data-from w bs (h .1),
     )

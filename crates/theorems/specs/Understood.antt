@@ -32,8 +32,8 @@ use Rattle.paper.specs.Collecting.{collectOf}
 use Rattle.theorems.specs.Driven.{reads, blank-length}
 use Rattle.theorems.specs.Sent.{byte-read}
 use Rattle.theorems.specs.Planned.{asked-same}
-use Rattle.theorems.specs.Built.{writes, shown, shown-all}
-use Rattle.theorems.specs.Meant.{Spelled, Meant, Ready, sent, wiresIn, bodyIn, bytesRead, faultless}
+use Rattle.theorems.specs.Built.{writes, bytesDriven, shown-all}
+use Rattle.theorems.specs.Meant.{Spelled, Meant, Lendable, sent, wiresIn, bodyIn, bytesRead, faultless}
 use Rattle.theorems.specs.Answered.{no-refusal, sent-is, suits, carried-data, read-so, no-early, read-done, heard-so}
 
 -- ---- the statement
@@ -43,15 +43,16 @@ pub record Understood (o : Order) (d : Device) (l : Lent) (xs out : List ℕ) : 
   pub kind : partsOf (settingOf d) xs .kind ≡ kindAsked o
   pub address : addressed (addressOf (kindAsked o)) ≡ true → partsOf (settingOf d) xs .address ≡ o .address
   pub written : writes (bodyIn o) ≡ true → dataBytes (wiresIn o) (partsOf (settingOf d) xs .dataPart) ≡ o .written
-  pub wanted : reads (bodyIn o) ≡ true → many (partsOf (settingOf d) xs .dataPart) ≡ clocksOf (wiresIn o) (shown (bodyIn o) (o .wanted))
-  pub all : reads (bodyIn o) ≡ true → (kindAsked o ≡ Kinds.ReadAny → ⊥) → shown (bodyIn o) (o .wanted) ≡ o .wanted
+  pub sentAll : writes (bodyIn o) ≡ true → many (partsOf (settingOf d) xs .dataPart) ≡ clocksOf (wiresIn o) (manyBytes (o .written))
+  pub wanted : reads (bodyIn o) ≡ true → many (partsOf (settingOf d) xs .dataPart) ≡ clocksOf (wiresIn o) (bytesDriven (bodyIn o) (o .wanted))
+  pub all : reads (bodyIn o) ≡ true → (kindAsked o ≡ Kinds.ReadAny → ⊥) → bytesDriven (bodyIn o) (o .wanted) ≡ o .wanted
   -- the answer
   pub answer : faultless (transactOf d l xs out .answer) ≡ true
   pub done : reads (bodyIn o) ≡ true → transactOf d l xs out .answer ≡ Done
   -- what comes back
-  pub heard : reads (bodyIn o) ≡ true → (buffer : List ℕ) → shown (bodyIn o) (o .wanted) .0 ≤ length buffer
+  pub heard : reads (bodyIn o) ≡ true → (buffer : List ℕ) → bytesDriven (bodyIn o) (o .wanted) .0 ≤ length buffer
       → collectOf (wiresOf (wiresIn o)) (first (many xs) (transactOf d l xs out .output)) buffer
-      ≡ record { answer = Done; number = shown (bodyIn o) (o .wanted); buffer = over (bytesRead o d l) buffer }
+      ≡ record { answer = Done; number = bytesDriven (bodyIn o) (o .wanted); buffer = over (bytesRead o d l) buffer }
 
 -- ---- the words of the order are those of the device
 module _ (o : Order) (room : List ℕ) (done : buildOf o room .answer ≡ Done) (sp : Spelled o) (d : Device) (m : Meant o d) where
@@ -80,7 +81,7 @@ module _ (o : Order) (room : List ℕ) (done : buildOf o room .answer ≡ Done) 
   is-read : {B : Body} → B ≡ body → reads B ≡ true → reads body ≡ true
   is-read e h = ap reads (sym e) ∙ h
 
-  understood-so : (l : Lent) (out : List ℕ) → Ready d l (builtOf o k) out → Understood o d l (builtOf o k) out
+  understood-so : (l : Lent) (out : List ℕ) → Lendable d l (builtOf o k) out → Understood o d l (builtOf o k) out
   understood-so l out r =
       let e₁ = read-so o room done sp d m in
       let carries = carried-data o room done sp d m in
@@ -89,9 +90,10 @@ module _ (o : Order) (room : List ℕ) (done : buildOf o room .answer ≡ Done) 
         kind = rw e₁;
         address = λ e. rw e₁ (address-so (addressed (addressOf k)) e);
         written = λ e. rw (e₁, same-wires) (carries .written (ap writes (sym same-body) ∙ e));
+        sentAll = λ e. rw (e₁, same-wires) (carries .sentAll (ap writes (sym same-body) ∙ e));
         wanted = λ e.
             rw (e₁, same-wires, same-body)
-            (ap many (carries .wanted (is-read same-body e)) ∙ ap clocks (blank-length (shown body (o .wanted) .0 * perByte v)));
+            (ap many (carries .wanted (is-read same-body e)) ∙ ap clocks (blank-length (bytesDriven body (o .wanted) .0 * perByte v)));
         all = λ e other.
             shown-all (bodyIn o) (o .wanted) (manyBytes (o .written)) e
             (ap (λ (b : Body). tooMany b (o .wanted) (manyBytes (o .written))) (sym (asked-same k (bodyIn o) other)) ∙ no-refusal o room done .1 .1 .1 .1 .0);
@@ -99,12 +101,12 @@ module _ (o : Order) (room : List ℕ) (done : buildOf o room .answer ≡ Done) 
         done = λ e. read-done o room done sp d m l out r (is-read same-body e);
         heard = λ e buffer h.
             rw (same-wires, same-body)
-            (heard-so o room done sp d m l out r (is-read same-body e) buffer (subst (λ (b : Body). shown b (o .wanted) .0 ≤ length buffer) same-body h));
+            (heard-so o room done sp d m l out r (is-read same-body e) buffer (subst (λ (b : Body). bytesDriven b (o .wanted) .0 ≤ length buffer) same-body h));
       }
 
 -- THE DEVICE READS WHAT THE HOST BUILT
 pub understood : (o : Order) (room : List ℕ) → buildOf o room .answer ≡ Done → Spelled o → (d : Device) → Meant o d
-    → (l : Lent) (out : List ℕ) → Ready d l (sent (buildOf o room)) out → Understood o d l (sent (buildOf o room)) out
+    → (l : Lent) (out : List ℕ) → Lendable d l (sent (buildOf o room)) out → Understood o d l (sent (buildOf o room)) out
 understood o room done sp d m l out r =
     let e = sent-is o room done in
-    subst (λ (xs : List ℕ). Understood o d l xs out) (sym e) (understood-so o room done sp d m l out (subst (λ (xs : List ℕ). Ready d l xs out) e r))
+    subst (λ (xs : List ℕ). Understood o d l xs out) (sym e) (understood-so o room done sp d m l out (subst (λ (xs : List ℕ). Lendable d l xs out) e r))

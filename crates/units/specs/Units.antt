@@ -1,6 +1,8 @@
 -- Clocks and bytes. Document 01, "Samples", last sentence: the two are never taken for one another. Each is a type of its own here too, and every
 -- way from one to the other names the wires.
-use Prim.Native.Nat.{ℕ, _*_, _/_, _%_}
+use Prim.Native.Nat.{ℕ, _+_, _*_, _/_, _%_}
+use mathlib.Core.Bool.{Bool}
+use lib.Dec.{ltb, leb}
 use Rattle.units.specs.declared.Clocks.{Clocks}
 use Rattle.units.specs.declared.Bytes.{Bytes}
 use Rattle.units.specs.declared.Wires.{Wires}
@@ -11,6 +13,27 @@ clocks k = record { 0 = k }
 
 abbrev pub bytes : ℕ → Bytes
 bytes k = record { 0 = k }
+
+-- one clock more
+abbrev pub next : Clocks → Clocks
+next c = clocks (c .0 + 1)
+
+-- clocks are compared with clocks, and bytes with bytes
+abbrev pub fewer : Clocks → Clocks → Bool
+fewer c d = ltb (c .0) (d .0)
+
+abbrev pub atMost : Clocks → Clocks → Bool
+atMost c d = leb (c .0) (d .0)
+
+abbrev pub fewerBytes : Bytes → Bytes → Bool
+fewerBytes b c = ltb (b .0) (c .0)
+
+abbrev pub atMostBytes : Bytes → Bytes → Bool
+atMostBytes b c = leb (b .0) (c .0)
+
+-- no transaction has more clocks. Document 01, "Samples", first sentence, and "Answer numbers", row 1
+abbrev pub longest : Clocks
+longest = clocks 65535
 
 -- how many wires they are, which is how many bits travel in a clock
 abbrev pub wiresOf : Wires → ℕ
@@ -25,6 +48,10 @@ perByte w = 8 / wiresOf w
 -- bytes to clocks
 abbrev pub clocksOf : Wires → Bytes → Clocks
 clocksOf w b = clocks (b .0 * perByte w)
+
+-- those of one byte
+abbrev pub byteClocks : Wires → Clocks
+byteClocks w = clocks (perByte w)
 
 -- clocks to whole bytes
 abbrev pub wholeOf : Wires → Clocks → Bytes

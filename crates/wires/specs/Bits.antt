@@ -27,10 +27,13 @@ gather w xs = gatherFrom w 0 xs
 abbrev pub above : Wires → ℕ → ℕ → ℕ
 above w below v = v / 2 ^ (wiresOf w * below) % 2 ^ wiresOf w
 
--- the samples that spell the low bits of v in so many clocks, wires that are not in use at 0
-unfoldable pub spread : Wires → ℕ → ℕ → List ℕ
-spread w zero v = []
-spread w (suc n) v = above w n v ∷ spread w n v
+-- the samples that spell the low bits of v in n clocks, wires that are not in use at 0
+unfoldable pub spelled : Wires → ℕ → ℕ → List ℕ
+spelled w zero v = []
+spelled w (suc n) v = above w n v ∷ spelled w n v
+
+abbrev pub spread : Wires → Clocks → ℕ → List ℕ
+spread w c v = spelled w (c .0) v
 
 -- the bits of a byte in its clock k, counted from 0; after the last clock of a byte the first comes round again
 unfoldable pub groupOf : Wires → Clocks → ℕ → ℕ

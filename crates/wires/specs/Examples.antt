@@ -7,18 +7,18 @@ use Rattle.basis.specs.Examples.{all, same}
 use Rattle.units.specs.declared.Wires.{Wires}
 use Rattle.units.specs.declared.Wires.the-variants.{One, Two, Four}
 use Rattle.units.specs.Units.{clocks, perByte}
-use Rattle.wires.specs.Bits.{shiftOf, gatherFrom, gather, spread, groupOf}
+use Rattle.wires.specs.Bits.{shiftOf, gatherFrom, gather, spelled, groupOf}
 use Rattle.wires.specs.Levels.{levelOf, drivenOf}
 
 -- what a byte drives in its clocks
 abbrev drives : Wires → ℕ → List ℕ
-drives w b = map (levelOf w) (spread w (perByte w) b)
+drives w b = map (levelOf w) (spelled w (perByte w) b)
 
 unfoldable pub examples : List Bool
 examples =
     -- 06 on two wires and on four
-    same (spread Two 4 0x06) (0x00 ∷ 0x00 ∷ 0x01 ∷ 0x02 ∷ [])
-    ∷ same (spread Four 2 0x06) (0x00 ∷ 0x06 ∷ [])
+    same (spelled Two 4 0x06) (0x00 ∷ 0x00 ∷ 0x01 ∷ 0x02 ∷ [])
+    ∷ same (spelled Four 2 0x06) (0x00 ∷ 0x06 ∷ [])
     -- A5 driven on four wires and on one
     ∷ same (drives Four 0xA5) (0xFA ∷ 0xF5 ∷ [])
     ∷ same (drives One 0xA5) (0x22 ∷ 0x20 ∷ 0x22 ∷ 0x20 ∷ 0x20 ∷ 0x22 ∷ 0x20 ∷ 0x22 ∷ [])
@@ -36,5 +36,5 @@ examples =
     ∷ []
 
 pub examples-hold : T (all examples)
-unfolding examples gatherFrom shiftOf spread groupOf
+unfolding examples gatherFrom shiftOf spelled groupOf
 examples-hold = tt

@@ -12,7 +12,7 @@ use Rattle.units.specs.declared.Wires.{Wires}
 use Rattle.units.specs.declared.Clocks.{Clocks}
 use Rattle.units.specs.Units.{wiresOf, perByte}
 use Rattle.units.specs.Laws.{bits-of-byte, perByte-pos}
-use Rattle.wires.specs.Bits.{bitsOf, shiftOf, gatherFrom, gather, above, spread, groupOf}
+use Rattle.wires.specs.Bits.{bitsOf, shiftOf, gatherFrom, gather, above, spelled, groupOf}
 
 -- the product that a shift makes before the register cuts it fits the machine's word
 pub shift-fits : {number v : ℕ} → number < 2 ^ 32 → v < 2 ^ 8 → number * v < 2 ^ 40
@@ -25,20 +25,20 @@ module _ (w : Wires) where
   gather-append number [] ys = refl
   gather-append number (x ∷ xs) ys = gather-append (shiftOf w number x) xs ys
 
-  pub spread-length : (n v : ℕ) → length (spread w n v) ≡ n
-  unfolding spread
+  pub spread-length : (n v : ℕ) → length (spelled w n v) ≡ n
+  unfolding spelled
   spread-length zero v = refl
   spread-length (suc n) v = ap suc (spread-length n v)
 
   -- each sample of a spread number stands for the bits above the samples that follow it
-  pub spread-at : (n k v : ℕ) → k < n → getD (spread w n v) k 0 ≡ above w (n - 1 - k) v
-  unfolding spread
+  pub spread-at : (n k v : ℕ) → k < n → getD (spelled w n v) k 0 ≡ above w (n - 1 - k) v
+  unfolding spelled
   spread-at zero k v h = absurd (not-suc-le-zero h)
   spread-at (suc n) zero v h = let e : suc n - 1 - 0 ≡ n = omega arith in rw e
   spread-at (suc n) (suc k) v h = let e : suc n - 1 - suc k ≡ n - 1 - k = omega arith in rw e (spread-at n k v (omega arith))
 
   -- a byte's clocks carry the samples that spell it, in their order
-  pub group-spread : (k : Clocks) (b : ℕ) → groupOf w k b ≡ getD (spread w (perByte w) b) (k .0 % perByte w) 0
+  pub group-spread : (k : Clocks) (b : ℕ) → groupOf w k b ≡ getD (spelled w (perByte w) b) (k .0 % perByte w) 0
   unfolding groupOf
   group-spread k b = rw (spread-at (perByte w) (k .0 % perByte w) b (mod-lt (k .0) (perByte-pos w)))
 
@@ -59,8 +59,8 @@ module _ (w : Wires) where
 
   -- what is spread is gathered again, below what was gathered before
   gather-spread-from : (n i number v : ℕ) → number < 2 ^ i → i + wiresOf w * n ≤ 24
-      → gatherFrom w number (spread w n v) ≡ number * 2 ^ (wiresOf w * n) + v % 2 ^ (wiresOf w * n)
-  unfolding gatherFrom spread
+      → gatherFrom w number (spelled w n v) ≡ number * 2 ^ (wiresOf w * n) + v % 2 ^ (wiresOf w * n)
+  unfolding gatherFrom spelled
   gather-spread-from zero i number v h r = simp (mul-zero, mul-one, mod-one, add-zero)
   gather-spread-from (suc n) i number v h r =
       let k = wiresOf w in
@@ -106,8 +106,8 @@ module _ (w : Wires) where
       )
 
   spread-gather-from : (i number : ℕ) (xs : List ℕ) → number < 2 ^ i → i + wiresOf w * length xs ≤ 24
-      → spread w (length xs) (gatherFrom w number xs) ≡ map (bitsOf w) xs
-  unfolding gatherFrom spread
+      → spelled w (length xs) (gatherFrom w number xs) ≡ map (bitsOf w) xs
+  unfolding gatherFrom spelled
   spread-gather-from i number [] h r = refl
   spread-gather-from i number (x ∷ xs) h r =
       let k = wiresOf w in
@@ -118,9 +118,9 @@ module _ (w : Wires) where
       rw (first, spread-gather-from (i + k) (shiftOf w number x) xs s (q .1))
 
   -- GATHERING UNDOES SPREADING: a number that fits its clocks is gathered from the samples that spell it
-  pub gather-spread : (n v : ℕ) → wiresOf w * n ≤ 24 → v < 2 ^ (wiresOf w * n) → gather w (spread w n v) ≡ v
+  pub gather-spread : (n v : ℕ) → wiresOf w * n ≤ 24 → v < 2 ^ (wiresOf w * n) → gather w (spelled w n v) ≡ v
   gather-spread n v r h = rw (gather-spread-from n 0 0 v (pow-pos 0) (rw zero-add r), zero-mul, zero-add, mod-eq-of-lt h)
 
   -- SPREADING UNDOES GATHERING: the samples of a number that was gathered are those it came from, wires that are not in use at 0
-  pub spread-gather : (xs : List ℕ) → wiresOf w * length xs ≤ 24 → spread w (length xs) (gather w xs) ≡ map (bitsOf w) xs
+  pub spread-gather : (xs : List ℕ) → wiresOf w * length xs ≤ 24 → spelled w (length xs) (gather w xs) ≡ map (bitsOf w) xs
   spread-gather xs r = spread-gather-from 0 0 xs (pow-pos 0) (rw zero-add r)

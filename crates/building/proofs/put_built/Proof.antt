@@ -11,19 +11,19 @@ put-built-spec =
     tie.close
     (tie.spec
     -- mode-wires-requires
-    (λ c κs. search needs)
+    (λ c κs. tt)
     -- later-wires-requires
-    (λ c κs. search needs)
+    (λ c κs. tt)
     -- address-of-requires
-    (λ c κs. search needs)
+    (λ c κs. tt)
     -- address-length-requires
-    (λ c κs. search needs)
+    (λ c κs. tt)
     -- put-byte-requires
-    (λ c κs. search needs)
+    (λ c κs. tt)
     -- put-number-requires
-    (λ c κs. search needs)
+    (λ c κs. tt)
     -- put-rest-requires
-    (λ c κs. search needs)
+    (λ c κs. tt)
     -- same-length
     (λ c. search needs)
     -- returns

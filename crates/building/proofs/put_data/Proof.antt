@@ -15,19 +15,19 @@ put-data-spec =
     -- enum-told-2
     (λ c. search needs)
     -- put-wanted-requires
-    (λ c κs. search needs)
+    (λ c κs. tt)
     -- enum-told-3
     (λ c. search needs)
     -- put-wanted-requires-2
-    (λ c κs. search needs)
+    (λ c κs. tt)
     -- enum-told-4
     (λ c. search needs)
     -- put-written-requires
-    (λ c κs. search needs)
+    (λ c κs. tt)
     -- enum-told-5
     (λ c. search needs)
     -- put-written-requires-2
-    (λ c κs. search needs)
+    (λ c κs. tt)
     -- returns
     (λ c. rw (c .enum-told .given .1))
     -- same-length

@@ -11,15 +11,15 @@ put-rest-spec =
     tie.close
     (tie.spec
     -- wait-of-requires
-    (λ c κs. search needs)
+    (λ c κs. tt)
     -- put-silent-requires
-    (λ c κs. search needs)
+    (λ c κs. tt)
     -- body-asked-requires
-    (λ c κs. search needs)
+    (λ c κs. tt)
     -- later-wires-requires
-    (λ c κs. search needs)
+    (λ c κs. tt)
     -- put-data-requires
-    (λ c κs. search needs)
+    (λ c κs. tt)
     -- same-length
     (λ c. search needs)
     -- returns

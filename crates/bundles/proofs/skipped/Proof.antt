@@ -1,7 +1,6 @@
 -- `bundles::skipped` meets its contract: the bytes that are left are counted.
 -- Assumes nothing.
 use native.Mathlib.Omega.{arith}
-use borrow.Author.Needs.{needs}
 use Rattle.bundles.proofs.skipped.Statement.{statement}
 use Rattle.bundles.proofs.skipped.Tie as tie
 
@@ -15,10 +14,10 @@ loop-holds : tie.Need-loop-holds Inv-loop μ-loop
 loop-holds c = tt
 
 skip-one-requires : tie.Need-skip-one-requires Inv-loop μ-loop
-skip-one-requires c κs = search needs
+skip-one-requires c κs = tt
 
 returns : tie.Need-returns Inv-loop μ-loop
-returns c = search needs
+returns c = tt
 
 sub-left : tie.Need-sub-left Inv-loop μ-loop
 sub-left c = omega (arith, c .before .before .loop-test .taken)
@@ -30,7 +29,7 @@ loop-again : tie.Need-loop-again Inv-loop μ-loop
 loop-again c = tt
 
 returns-2 : tie.Need-returns-2 Inv-loop μ-loop
-returns-2 c = search needs
+returns-2 c = tt
 
 pub skipped-spec : {M : Type 1} → statement M
 skipped-spec =

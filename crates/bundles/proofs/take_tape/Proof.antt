@@ -13,15 +13,15 @@ take-tape-spec =
     -- slice-aggregate-read-full
     (λ c. search needs)
     -- read-full-requires
-    (λ c κs. search needs)
+    (λ c κs. tt)
     -- took-requires
-    (λ c κs. search needs)
+    (λ c κs. tt)
     -- returns
-    (λ c. search needs)
+    (λ c. tt)
     -- took-requires-2
-    (λ c κs. search needs)
+    (λ c κs. tt)
     -- returns-2
-    (λ c. search needs)
+    (λ c. tt)
     -- array-read-number-of
     (λ c. search needs)
     -- array-read-number-of-2
@@ -31,24 +31,24 @@ take-tape-spec =
     -- array-read-number-of-4
     (λ c. search needs)
     -- number-of-requires
-    (λ c κs. search needs)
+    (λ c κs. tt)
     -- cast-long
     (λ c. search needs)
     -- skipped-requires
-    (λ c κs. search needs)
+    (λ c κs. tt)
     -- took-requires-3
-    (λ c κs. search needs)
+    (λ c κs. tt)
     -- returns-3
-    (λ c. search needs)
+    (λ c. tt)
     -- slice-relend-prefix-read-full
     (λ c. search needs)
     -- slice-aggregate-read-full-2
     (λ c. sym (length-take-le _ _ (c .before .if3 .left)))
     -- read-full-requires-2
-    (λ c κs. search needs)
+    (λ c κs. tt)
     -- took-requires-4
-    (λ c κs. search needs)
+    (λ c κs. tt)
     -- same-length
     (λ c. search needs)
     -- returns-4
-    (λ c. search needs))
+    (λ c. tt))

@@ -11,7 +11,7 @@ byte-read-spec =
     tie.close
     (tie.spec
     -- setting-requires
-    (λ c κs. search needs)
+    (λ c κs. tt)
     -- enum-told
     (λ c. search needs)
     -- enum-told-2
@@ -19,21 +19,21 @@ byte-read-spec =
     -- enum-known-k
     (λ c. search needs)
     -- shown-byte-requires
-    (λ c κs. search needs)
+    (λ c κs. tt)
     -- enum-told-3
     (λ c. search needs)
     -- register-at-requires
-    (λ c κs. search needs)
+    (λ c κs. tt)
     -- mapped-byte-requires
-    (λ c κs. search needs)
+    (λ c κs. tt)
     -- enum-told-4
     (λ c. search needs)
     -- shown-byte-requires-2
-    (λ c κs. search needs)
+    (λ c κs. tt)
     -- enum-told-5
     (λ c. search needs)
     -- shown-byte-requires-3
-    (λ c κs. search needs)
+    (λ c κs. tt)
     -- enum-told-6
     (λ c. search needs)
     -- enum-told-7
@@ -43,7 +43,7 @@ byte-read-spec =
     -- read-place-requires
     (λ c κs. rw (c .before .before .setting .ensures) (c .before .before .before .before .before .pre))
     -- get-requires
-    (λ c κs. search needs)
+    (λ c κs. tt)
     -- enum-told-9
     (λ c. search needs)
     -- enum-told-10
@@ -51,7 +51,7 @@ byte-read-spec =
     -- area-place-requires
     (λ c κs. search needs)
     -- get-requires-2
-    (λ c κs. search needs)
+    (λ c κs. tt)
     -- enum-told-11
     (λ c. search needs)
     -- returns

@@ -11,7 +11,7 @@ mapped-byte-spec =
     -- enum-known-m
     (λ c. search needs)
     -- shown-byte-requires
-    (λ c κs. search needs)
+    (λ c κs. tt)
     -- enum-told
     (λ c. search needs)
     -- returns

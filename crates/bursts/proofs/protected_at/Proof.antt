@@ -11,11 +11,11 @@ protected-at-spec =
     tie.close
     (tie.spec
     -- is-in-area-requires
-    (λ c κs. search needs)
+    (λ c κs. tt)
     -- area-place-requires
     (λ c κs. search needs)
     -- area-protected-requires
-    (λ c κs. search needs)
+    (λ c κs. tt)
     -- returns
     (λ c. rw (← c .before .before .before .is-in-area .ensures, c .before .before .if1 .taken, c .area-protected .ensures, c .before .area-place .ensures))
     -- write-place-requires

@@ -11,11 +11,11 @@ put-at-spec =
     tie.close
     (tie.spec
     -- is-in-area-requires
-    (λ c κs. search needs)
+    (λ c κs. tt)
     -- area-place-requires
     (λ c κs. search needs)
     -- put-requires
-    (λ c κs. search needs)
+    (λ c κs. tt)
     -- same-length
     (λ c. search needs)
     -- returns
@@ -23,7 +23,7 @@ put-at-spec =
     -- write-place-requires
     (λ c κs. search needs)
     -- put-requires-2
-    (λ c κs. search needs)
+    (λ c κs. tt)
     -- same-length-2
     (λ c. search needs)
     -- returns-2

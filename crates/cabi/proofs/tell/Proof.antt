@@ -11,9 +11,9 @@ tell-spec =
     -- put-chip-requires
     (λ c κs. search needs)
     -- put-counts-requires
-    (λ c κs. search needs)
+    (λ c κs. tt)
     -- answer-number-requires
-    (λ c κs. search needs)
+    (λ c κs. tt)
     -- same-length
     (λ c. search needs)
     -- same-length-2

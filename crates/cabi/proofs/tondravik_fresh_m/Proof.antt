@@ -15,7 +15,7 @@ tondravik-fresh-m-spec =
     -- returns
     (λ c. rw (ne-eqb _ _ (c .if1 .taken)))
     -- is-offered-requires
-    (λ c κs. search needs)
+    (λ c κs. tt)
     -- returns-2
     (λ c. rw (eq-eqb _ _ (c .before .before .if1 .left), ← c .before .is-offered .ensures, not-true (c .before .is-offered .result) (c .if2 .taken)))
     -- returns-3
@@ -33,7 +33,7 @@ tondravik-fresh-m-spec =
     -- eight-at-requires
     (λ c κs. search needs)
     -- fresh-m-requires
-    (λ c κs. search needs)
+    (λ c κs. tt)
     -- put-chip-requires
     (λ c κs. search needs)
     -- same-length

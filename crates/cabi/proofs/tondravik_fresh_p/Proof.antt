@@ -15,7 +15,7 @@ tondravik-fresh-p-spec =
     -- returns
     (λ c. rw (ne-eqb _ _ (c .if1 .taken)))
     -- is-offered-requires
-    (λ c κs. search needs)
+    (λ c κs. tt)
     -- returns-2
     (λ c. rw (eq-eqb _ _ (c .before .before .if1 .left), ← c .before .is-offered .ensures, not-true (c .before .is-offered .result) (c .if2 .taken)))
     -- returns-3
@@ -23,7 +23,7 @@ tondravik-fresh-p-spec =
     -- eight-at-requires
     (λ c κs. search needs)
     -- fresh-p-requires
-    (λ c κs. search needs)
+    (λ c κs. tt)
     -- put-chip-requires
     (λ c κs. search needs)
     -- same-length

@@ -13,7 +13,7 @@ tondravik-power-cycle-spec =
     tie.close
     (tie.spec
     -- is-chip-requires
-    (λ c κs. search needs)
+    (λ c κs. tt)
     -- same-length
     (λ c. search needs)
     -- returns
@@ -21,11 +21,11 @@ tondravik-power-cycle-spec =
     -- chip-of-requires
     (λ c κs. chip-long _ (sym (c .before .before .is-chip .ensures) ∙ not-false (c .before .before .is-chip .result) (c .before .if1 .left)))
     -- power-cycle-requires
-    (λ c κs. search needs)
+    (λ c κs. tt)
     -- put-chip-requires
     (λ c κs. chip-long _ (sym (c .before .before .before .before .before .before .before .before .before .is-chip .ensures) ∙ not-false (c .before .before .before .before .before .before .before .before .before .is-chip .result) (c .before .before .before .before .before .before .before .before .if1 .left)))
     -- answer-number-requires
-    (λ c κs. search needs)
+    (λ c κs. tt)
     -- same-length-2
     (λ c. search needs)
     -- same-length-3

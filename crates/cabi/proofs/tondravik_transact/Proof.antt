@@ -15,11 +15,11 @@ tondravik-transact-spec =
     tie.close
     (tie.spec
     -- is-chip-requires
-    (λ c κs. search needs)
+    (λ c κs. tt)
     -- none-requires
-    (λ c κs. search needs)
+    (λ c κs. tt)
     -- put-counts-requires
-    (λ c κs. search needs)
+    (λ c κs. tt)
     -- same-length
     (λ c. search needs)
     -- same-length-2
@@ -33,7 +33,7 @@ tondravik-transact-spec =
     -- chip-of-requires
     (λ c κs. chip-long _ (sym (c .before .before .before .is-chip .ensures) ∙ not-false (c .before .before .before .is-chip .result) (c .before .before .if1 .left)))
     -- transact-requires
-    (λ c κs. search needs)
+    (λ c κs. tt)
     -- tell-requires
     (λ c κs. chip-long _ (sym (c .before .before .before .before .before .before .before .before .before .before .before .before .before .before .before .before .is-chip .ensures) ∙ not-false (c .before .before .before .before .before .before .before .before .before .before .before .before .before .before .before .before .is-chip .result) (c .before .before .before .before .before .before .before .before .before .before .before .before .before .before .before .if1 .left)))
     -- same-length-4

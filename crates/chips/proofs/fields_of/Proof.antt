@@ -1,6 +1,5 @@
 -- `chips::fields_of` meets its contract: the fields in the order of their places.
 -- Assumes nothing.
-use borrow.Author.Needs.{needs}
 use Rattle.chips.proofs.fields_of.Statement.{statement}
 use Rattle.chips.proofs.fields_of.Tie as tie
 
@@ -9,12 +8,12 @@ fields-of-spec =
     tie.close
     (tie.spec
     -- bit-of-requires
-    (λ c κs. search needs)
+    (λ c κs. tt)
     -- bit-of-requires-2
-    (λ c κs. search needs)
+    (λ c κs. tt)
     -- bit-of-requires-3
-    (λ c κs. search needs)
+    (λ c κs. tt)
     -- bit-of-requires-4
-    (λ c κs. search needs)
+    (λ c κs. tt)
     -- returns
     (λ c. rw (c .bit-of4 .ensures, c .before .bit-of3 .ensures, c .before .before .bit-of2 .ensures, c .before .before .before .bit-of .ensures)))

@@ -10,17 +10,17 @@ put-chip-spec =
     tie.close
     (tie.spec
     -- fields-of-requires
-    (λ c κs. search needs)
+    (λ c κs. tt)
     -- slice-aggregate-put-all
     (λ c. search needs)
     -- put-all-requires
-    (λ c κs. search needs)
+    (λ c κs. tt)
     -- put-eight-requires
-    (λ c κs. search needs)
+    (λ c κs. tt)
     -- put-eight-requires-2
-    (λ c κs. search needs)
+    (λ c κs. tt)
     -- put-eight-requires-3
-    (λ c κs. search needs)
+    (λ c κs. tt)
     -- same-length
     (λ c. search needs)
     -- returns

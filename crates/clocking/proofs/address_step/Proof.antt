@@ -12,13 +12,13 @@ address-step-spec =
     tie.close
     (tie.spec
     -- wires-for-requires
-    (λ c κs. search needs)
+    (λ c κs. tt)
     -- shift-in-requires
-    (λ c κs. search needs)
+    (λ c κs. tt)
     -- address-tick-requires
     (λ c κs. search needs)
     -- address-clocks-requires
-    (λ c κs. search needs)
+    (λ c κs. tt)
     -- to-wait-requires
     (λ c κs. search needs)
     -- returns

@@ -1,6 +1,5 @@
 -- `clocking::begin` meets its contract: no clock has come.
 -- Assumes nothing.
-use borrow.Author.Needs.{needs}
 use Rattle.clocking.proofs.begin.Statement.{statement}
 use Rattle.clocking.proofs.begin.Tie as tie
 
@@ -9,6 +8,6 @@ begin-spec =
     tie.close
     (tie.spec
     -- none-requires
-    (λ c κs. search needs)
+    (λ c κs. tt)
     -- returns
     (λ c. rw (c .none .ensures)))

@@ -12,15 +12,15 @@ command-step-spec =
     tie.close
     (tie.spec
     -- shift-in-requires
-    (λ c κs. search needs)
+    (λ c κs. tt)
     -- command-tick-requires
     (λ c κs. search needs)
     -- command-clocks-requires
-    (λ c κs. search needs)
+    (λ c κs. tt)
     -- cast-kind-of
     (λ c. search needs)
     -- kind-of-requires
-    (λ c κs. search needs)
+    (λ c κs. tt)
     -- to-address-requires
     (λ c κs. search needs)
     -- returns

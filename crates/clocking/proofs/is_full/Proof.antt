@@ -13,13 +13,13 @@ is-full-spec =
     -- enum-known-b
     (λ c. search needs)
     -- clocks-to-bytes-requires
-    (λ c κs. search needs)
+    (λ c κs. tt)
     -- enum-told-2
     (λ c. search needs)
     -- enum-known-b-2
     (λ c. search needs)
     -- clocks-to-bytes-requires-2
-    (λ c κs. search needs)
+    (λ c κs. tt)
     -- enum-told-3
     (λ c. search needs)
     -- returns

@@ -12,7 +12,7 @@ to-address-spec =
     tie.close
     (tie.spec
     -- address-clocks-requires
-    (λ c κs. search needs)
+    (λ c κs. tt)
     -- to-wait-requires
     (λ c κs. search needs)
     -- returns

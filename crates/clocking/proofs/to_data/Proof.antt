@@ -13,9 +13,9 @@ to-data-spec =
     -- body-for-requires
     (λ c κs. search needs)
     -- wires-for-requires
-    (λ c κs. search needs)
+    (λ c κs. tt)
     -- is-full-requires
-    (λ c κs. search needs)
+    (λ c κs. tt)
     -- returns
     (λ c. rw (← c .before .before .before .body-for .ensures, ← c .before .before .wires-for .ensures, ← c .before .is-full .ensures, c .if1 .taken))
     -- returns-2

@@ -2,7 +2,6 @@
 -- Assumes nothing.
 use mathlib.Core.Path.{_∙_}
 use Rattle.collecting.specs.Laws.{collected-many}
-use borrow.Author.Needs.{needs}
 use Rattle.collecting.proofs.bytes_driven.Statement.{statement}
 use Rattle.collecting.proofs.bytes_driven.Tie as tie
 
@@ -11,8 +10,8 @@ bytes-driven-spec =
     tie.close
     (tie.spec
     -- driven-clocks-requires
-    (λ c κs. search needs)
+    (λ c κs. tt)
     -- clocks-to-bytes-requires
-    (λ c κs. search needs)
+    (λ c κs. tt)
     -- returns
     (λ c. c .clocks-to-bytes .ensures ∙ collected-many _ _ (c .before .driven-clocks .ensures)))

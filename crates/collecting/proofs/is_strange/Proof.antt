@@ -7,7 +7,6 @@ use lib.ListN.{length, drop}
 use borrow.Author.Tests.{not-true, not-false}
 use Rattle.paper.specs.Collecting.{strange}
 use Rattle.collecting.specs.Laws.{strange-skip, strange-stop, strange-on, strange-end}
-use borrow.Author.Needs.{needs}
 use Rattle.collecting.proofs.is_strange.Statement.{statement}
 use Rattle.collecting.proofs.is_strange.Tie as tie
 
@@ -33,7 +32,7 @@ loop-again : tie.Need-loop-again Inv-loop μ-loop
 loop-again c = sym (strange-skip _ _ _ (c .before .before .loop-test .taken) (c .if1 .taken)) ∙ c .before .before .before .loop .inv
 
 is-driven-requires : tie.Need-is-driven-requires Inv-loop μ-loop
-is-driven-requires c κs = search needs
+is-driven-requires c κs = tt
 
 returns : tie.Need-returns Inv-loop μ-loop
 returns c = sym (strange-stop _ _ _ (c .before .before .before .before .loop-test .taken) (c .before .before .if1 .left) (sym (c .before .is-driven .ensures) ∙ not-true (c .before .is-driven .result) (c .if2 .taken))) ∙ c .before .before .before .before .before .loop .inv

@@ -33,22 +33,22 @@ loop-again : tie.Need-loop-again Inv-loop μ-loop
 loop-again c = begun-skip (c .before .before .before .loop .inv) (c .before .before .loop-test .taken) (c .if1 .taken)
 
 seen-requires : tie.Need-seen-requires Inv-loop μ-loop
-seen-requires c κs = search needs
+seen-requires c κs = tt
 
 shift-in-requires : tie.Need-shift-in-requires Inv-loop μ-loop
-shift-in-requires c κs = search needs
+shift-in-requires c κs = tt
 
 add-t10 : tie.Need-add-t10 Inv-loop μ-loop
 add-t10 c = omega (arith, begun-few (c .before .before .before .before .before .loop .inv))
 
 unfinished-requires : tie.Need-unfinished-requires Inv-loop μ-loop
-unfinished-requires c κs = search needs
+unfinished-requires c κs = tt
 
 cast-put : tie.Need-cast-put Inv-loop μ-loop
 cast-put c = search needs
 
 put-requires : tie.Need-put-requires Inv-loop μ-loop
-put-requires c κs = search needs
+put-requires c κs = tt
 
 loop-less-2 : tie.Need-loop-less-2 Inv-loop μ-loop
 loop-less-2 c = omega (arith, c .before .before .before .before .before .before .before .before .before .before .loop-test .taken)

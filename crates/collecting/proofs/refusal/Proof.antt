@@ -2,7 +2,6 @@
 -- Assumes nothing.
 use borrow.Author.Tests.{not-true, not-false, lt-ltb, le-ltb}
 use Rattle.collecting.specs.Refusals.{refusalOf}
-use borrow.Author.Needs.{needs}
 use Rattle.collecting.proofs.refusal.Statement.{statement}
 use Rattle.collecting.proofs.refusal.Tie as tie
 
@@ -12,17 +11,17 @@ refusal-spec =
     tie.close
     (tie.spec
     -- is-wires-requires
-    (λ c κs. search needs)
+    (λ c κs. tt)
     -- returns
     (λ c. rw (← c .before .is-wires .ensures, not-true (c .before .is-wires .result) (c .if1 .taken)))
     -- mode-wires-requires
-    (λ c κs. search needs)
+    (λ c κs. tt)
     -- is-strange-requires
-    (λ c κs. search needs)
+    (λ c κs. tt)
     -- returns-2
     (λ c. rw (← c .before .before .before .before .is-wires .ensures, not-false (c .before .before .before .before .is-wires .result) (c .before .before .before .if1 .left), ← c .before .before .mode-wires .ensures, ← c .before .is-strange .ensures, c .if2 .taken))
     -- bytes-driven-requires
-    (λ c κs. search needs)
+    (λ c κs. tt)
     -- returns-3
     (λ c. rw (← c .before .before .before .before .before .before .before .is-wires .ensures, not-false (c .before .before .before .before .before .before .before .is-wires .result) (c .before .before .before .before .before .before .if1 .left), ← c .before .before .before .before .before .mode-wires .ensures, ← c .before .before .before .before .is-strange .ensures, c .before .before .before .if2 .left, lt-ltb _ _ (rw (c .before .before .bytes-driven .ensures) at (c .if3 .taken))))
     -- returns-4

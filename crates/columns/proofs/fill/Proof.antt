@@ -4,7 +4,6 @@ use mathlib.Core.Path.{_≡_, refl}
 use lib.ListN.{length-set}
 use Prim.Native.Nat.{_-_}
 use native.Mathlib.Omega.{arith}
-use borrow.Author.Needs.{needs}
 use lib.ListN.{length}
 use Rattle.columns.proofs.fill.Statement.{statement}
 use Rattle.columns.proofs.fill.Tie as tie
@@ -34,7 +33,7 @@ same-length : tie.Need-same-length Inv-loop μ-loop
 same-length c = c .before .loop .inv
 
 returns : tie.Need-returns Inv-loop μ-loop
-returns c = search needs
+returns c = tt
 
 pub fill-spec : {M : Type 1} → statement M
 fill-spec =

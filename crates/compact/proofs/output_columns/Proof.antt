@@ -11,24 +11,26 @@ output-columns-spec =
     tie.close
     (tie.spec
     -- digest-column-requires
-    (λ c κs. search needs)
+    (λ c κs. tt)
+    -- is-refusal-requires
+    (λ c κs. tt)
     -- slice-aggregate-put-all
     (λ c. search needs)
     -- put-all-requires
-    (λ c κs. search needs)
+    (λ c κs. tt)
     -- same-length
     (λ c. search needs)
     -- returns
-    (λ c. search needs)
+    (λ c. tt)
     -- same-length-2
     (λ c. search needs)
     -- returns-2
-    (λ c. search needs)
+    (λ c. tt)
     -- slice-aggregate-driven
-    (λ c. sym (length-take-le _ _ (c .before .before .if4 .left)))
+    (λ c. sym (length-take-le _ _ (c .before .before .if2 .left)))
     -- driven-requires
-    (λ c κs. search needs)
+    (λ c κs. tt)
     -- same-length-3
     (λ c. search needs)
     -- returns-3
-    (λ c. search needs))
+    (λ c. tt))

@@ -4,7 +4,6 @@ use mathlib.Core.Path.{_≡_, refl, _∙_}
 use Prim.Native.Nat.{ℕ, _-_}
 use native.Mathlib.Omega.{arith}
 use mathlib.Core.List.{List}
-use borrow.Author.Needs.{needs}
 use lib.ListN.{length}
 use Rattle.compare.proofs.all.Statement.{statement}
 use Rattle.compare.proofs.all.Tie as tie
@@ -30,7 +29,7 @@ add-k : tie.Need-add-k Inv-loop μ-loop
 add-k c = omega (arith, c .before .loop-test .taken)
 
 tape-turn-requires : tie.Need-tape-turn-requires Inv-loop μ-loop
-tape-turn-requires c κs = search needs
+tape-turn-requires c κs = tt
 
 loop-less : tie.Need-loop-less Inv-loop μ-loop
 loop-less c = omega (arith, c .before .before .before .before .before .before .before .before .before .before .before .before .before .before .before .before .before .loop-test .taken)
@@ -39,7 +38,7 @@ loop-again : tie.Need-loop-again Inv-loop μ-loop
 loop-again c = let i = c .before .before .before .before .before .before .before .before .before .before .before .before .before .before .before .before .before .before .loop .inv in let h = c .before .before .before .before .before .before .before .before .before .before .tape-turn .kept in record { tape = h .1 .1 .0 ∙ i .tape; memory = h .1 .1 .1 .0 ∙ i .memory; area = h .1 .1 .1 .1 .0 ∙ i .area; output = h .1 .1 .1 .1 .1 .0 ∙ i .output; text = h .1 .1 .1 .1 .1 .1 .0 ∙ i .text }
 
 flush-requires : tie.Need-flush-requires Inv-loop μ-loop
-flush-requires c κs = search needs
+flush-requires c κs = tt
 
 same-length : tie.Need-same-length Inv-loop μ-loop
 same-length c = c .before .before .before .loop .inv .tape
@@ -57,7 +56,7 @@ same-length-5 : tie.Need-same-length-5 Inv-loop μ-loop
 same-length-5 c = c .before .before .before .loop .inv .text
 
 returns : tie.Need-returns Inv-loop μ-loop
-returns c = search needs
+returns c = tt
 
 pub all-spec : {M : Type 1} → statement M
 all-spec =

@@ -10,13 +10,13 @@ played-spec =
     tie.close
     (tie.spec
     -- fill-requires
-    (λ c κs. search needs)
+    (λ c κs. tt)
     -- advance-requires
     (λ c κs. search needs)
     -- verdict-requires
-    (λ c κs. search needs)
+    (λ c κs. tt)
     -- stopped-requires
-    (λ c κs. search needs)
+    (λ c κs. tt)
     -- same-length
     (λ c. search needs)
     -- same-length-2
@@ -26,11 +26,11 @@ played-spec =
     -- same-length-4
     (λ c. search needs)
     -- returns
-    (λ c. search needs)
+    (λ c. tt)
     -- record-line-requires
-    (λ c κs. search needs)
+    (λ c κs. tt)
     -- flush-full-requires
-    (λ c κs. search needs)
+    (λ c κs. tt)
     -- same-length-5
     (λ c. search needs)
     -- same-length-6
@@ -40,4 +40,4 @@ played-spec =
     -- same-length-8
     (λ c. search needs)
     -- returns-2
-    (λ c. search needs))
+    (λ c. tt))

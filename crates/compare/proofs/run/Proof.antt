@@ -4,7 +4,6 @@ use mathlib.Core.Path.{_≡_, refl, _∙_}
 use Prim.Native.Nat.{ℕ, _-_}
 use native.Mathlib.Omega.{arith}
 use mathlib.Core.List.{List}
-use borrow.Author.Needs.{needs}
 use lib.ListN.{length}
 use Rattle.compare.proofs.run.Statement.{statement}
 use Rattle.compare.proofs.run.Tie as tie
@@ -23,7 +22,7 @@ abbrev μ-loop : tie.MeasureT-loop
 μ-loop tape memory₀ area₀ output₀ text₀ place st₀ k₀ memory area output text st k = 16385 - k
 
 started-requires : tie.Need-started-requires Inv-loop μ-loop
-started-requires c κs = search needs
+started-requires c κs = tt
 
 loop-holds : tie.Need-loop-holds Inv-loop μ-loop
 loop-holds c = record { memory = refl; area = refl; output = refl; text = refl }
@@ -32,7 +31,7 @@ add-k : tie.Need-add-k Inv-loop μ-loop
 add-k c = omega (arith, c .before .loop-test .taken)
 
 turn-requires : tie.Need-turn-requires Inv-loop μ-loop
-turn-requires c κs = search needs
+turn-requires c κs = tt
 
 loop-less : tie.Need-loop-less Inv-loop μ-loop
 loop-less c = omega (arith, c .before .before .before .before .before .before .before .before .before .before .before .before .before .before .loop-test .taken)
@@ -41,7 +40,7 @@ loop-again : tie.Need-loop-again Inv-loop μ-loop
 loop-again c = let i = c .before .before .before .before .before .before .before .before .before .before .before .before .before .before .before .loop .inv in let h = c .before .before .before .before .before .before .before .before .turn .kept in record { memory = h .1 .1 .1 .1 .0 ∙ i .memory; area = h .1 .1 .1 .1 .1 .0 ∙ i .area; output = h .1 .1 .1 .1 .1 .1 .0 ∙ i .output; text = h .1 .1 .1 .1 .1 .1 .1 .0 ∙ i .text }
 
 flush-full-requires : tie.Need-flush-full-requires Inv-loop μ-loop
-flush-full-requires c κs = search needs
+flush-full-requires c κs = tt
 
 same-length : tie.Need-same-length Inv-loop μ-loop
 same-length c = c .before .before .before .loop .inv .memory
@@ -56,7 +55,7 @@ same-length-4 : tie.Need-same-length-4 Inv-loop μ-loop
 same-length-4 c = c .before .before .before .loop .inv .text
 
 returns : tie.Need-returns Inv-loop μ-loop
-returns c = search needs
+returns c = tt
 
 pub run-spec : {M : Type 1} → statement M
 run-spec =

@@ -11,18 +11,18 @@ stores-spec =
     tie.close
     (tie.spec
     -- returns
-    (λ c. search needs)
+    (λ c. tt)
     -- returns-2
-    (λ c. search needs)
+    (λ c. tt)
     -- slice-aggregate-digest-column
-    (λ c. sym (length-take-le _ _ (c .before .before .before .before .if1 .left)))
+    (λ c. sym (length-take-le _ _ (c .before .before .before .if1 .left)))
     -- digest-column-requires
-    (λ c κs. search needs)
+    (λ c κs. tt)
     -- slice-aggregate-digest-column-2
     (λ c. sym (length-take-le _ _ (c .before .before .before .before .before .before .before .if2 .left)))
     -- digest-column-requires-2
-    (λ c κs. search needs)
+    (λ c κs. tt)
     -- same-length
     (λ c. search needs)
     -- returns-3
-    (λ c. search needs))
+    (λ c. tt))

@@ -11,39 +11,39 @@ tape-turn-spec =
     tie.close
     (tie.spec
     -- take-tape-requires
-    (λ c κs. search needs)
-    -- slice-aggregate-put-all
-    (λ c. search needs)
-    -- put-all-requires
-    (λ c κs. search needs)
+    (λ c κs. tt)
+    -- cut-requires
+    (λ c κs. tt)
     -- same-length
     (λ c. search needs)
     -- same-length-2
     (λ c. search needs)
     -- returns
-    (λ c. search needs)
+    (λ c. tt)
+    -- stopped-requires
+    (λ c κs. tt)
     -- same-length-3
     (λ c. search needs)
     -- returns-2
-    (λ c. search needs)
+    (λ c. tt)
     -- tape-line-requires
-    (λ c κs. search needs)
+    (λ c κs. tt)
     -- slice-aggregate-last-line
     (λ c. search needs)
     -- last-line-requires
-    (λ c κs. search needs)
+    (λ c κs. tt)
     -- same-length-4
     (λ c. search needs)
     -- same-length-5
     (λ c. search needs)
     -- returns-3
-    (λ c. search needs)
+    (λ c. tt)
     -- slice-reshare-prefix-run
     (λ c. search needs)
     -- slice-aggregate-run
     (λ c. sym (length-take-le _ _ (c .before .if3 .left)))
     -- run-requires
-    (λ c κs. search needs)
+    (λ c κs. tt)
     -- same-length-6
     (λ c. search needs)
     -- same-length-7
@@ -55,4 +55,4 @@ tape-turn-spec =
     -- same-length-10
     (λ c. search needs)
     -- returns-4
-    (λ c. search needs))
+    (λ c. tt))

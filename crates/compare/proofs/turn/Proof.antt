@@ -11,27 +11,27 @@ turn-spec =
     tie.close
     (tie.spec
     -- samples-at-requires
-    (λ c κs. search needs)
+    (λ c κs. tt)
     -- verdict-bad-requires
-    (λ c κs. search needs)
+    (λ c κs. tt)
     -- stopped-requires
-    (λ c κs. search needs)
+    (λ c κs. tt)
     -- same-length
     (λ c. search needs)
     -- returns
-    (λ c. search needs)
+    (λ c. tt)
     -- add-room
     (λ c. search needs)
     -- stopped-requires-2
-    (λ c κs. search needs)
+    (λ c κs. tt)
     -- returns-2
-    (λ c. search needs)
+    (λ c. tt)
     -- slice-relend-prefix-played
     (λ c. search needs)
     -- slice-aggregate-played
     (λ c. sym (length-take-le _ _ (c .before .before .before .if2 .left)))
     -- played-requires
-    (λ c κs. search needs)
+    (λ c κs. tt)
     -- same-length-2
     (λ c. search needs)
     -- same-length-3
@@ -41,4 +41,4 @@ turn-spec =
     -- same-length-5
     (λ c. search needs)
     -- returns-3
-    (λ c. search needs))
+    (λ c. tt))

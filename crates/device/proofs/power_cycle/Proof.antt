@@ -12,37 +12,37 @@ power-cycle-spec =
     tie.close
     (tie.spec
     -- is-sized-requires
-    (λ c κs. search needs)
+    (λ c κs. tt)
     -- unclocked-requires
-    (λ c κs. search needs)
+    (λ c κs. tt)
     -- same-length
     (λ c. search needs)
     -- returns
     (λ c. rw (← c .before .before .is-sized .ensures, c .before .if1 .taken, c .unclocked .ensures))
     -- valid-requires
-    (λ c κs. search needs)
+    (λ c κs. tt)
     -- unclocked-requires-2
-    (λ c κs. search needs)
+    (λ c κs. tt)
     -- same-length-2
     (λ c. search needs)
     -- returns-2
     (λ c. rw (← c .before .before .before .before .is-sized .ensures, c .before .before .before .if1 .left, ← c .before .before .valid .ensures, c .before .if2 .taken, c .unclocked2 .ensures))
     -- of-requires
-    (λ c κs. search needs)
+    (λ c κs. tt)
     -- enum-told
     (λ c. search needs)
     -- powered-requires
-    (λ c κs. search needs)
+    (λ c κs. tt)
     -- unclocked-requires-3
-    (λ c κs. search needs)
+    (λ c κs. tt)
     -- enum-told-2
     (λ c. search needs)
     -- wipe-requires
-    (λ c κs. search needs)
+    (λ c κs. tt)
     -- powered-requires-2
-    (λ c κs. search needs)
+    (λ c κs. tt)
     -- unclocked-requires-4
-    (λ c κs. search needs)
+    (λ c κs. tt)
     -- same-length-3
     (λ c. search needs)
     -- returns-3

@@ -14,9 +14,9 @@ transact-spec =
     tie.close
     (tie.spec
     -- is-sized-requires
-    (λ c κs. search needs)
+    (λ c κs. tt)
     -- unclocked-requires
-    (λ c κs. search needs)
+    (λ c κs. tt)
     -- same-length
     (λ c. search needs)
     -- same-length-2
@@ -24,9 +24,9 @@ transact-spec =
     -- returns
     (λ c. rw (← c .before .before .is-sized .ensures, not-true (c .before .before .is-sized .result) (c .before .if1 .taken), c .unclocked .ensures))
     -- has-room-requires
-    (λ c κs. search needs)
+    (λ c κs. tt)
     -- unclocked-requires-2
-    (λ c κs. search needs)
+    (λ c κs. tt)
     -- same-length-3
     (λ c. search needs)
     -- same-length-4
@@ -36,9 +36,9 @@ transact-spec =
     -- returns-2
     (λ c. rw (← c .before .before .before .before .before .is-sized .ensures, not-false (c .before .before .before .before .before .is-sized .result) (c .before .before .before .before .if1 .left), ← c .before .before .has-room .ensures, not-true (c .before .before .has-room .result) (c .before .if2 .taken), c .unclocked2 .ensures))
     -- is-sampled-requires
-    (λ c κs. search needs)
+    (λ c κs. tt)
     -- unclocked-requires-3
-    (λ c κs. search needs)
+    (λ c κs. tt)
     -- same-length-6
     (λ c. search needs)
     -- same-length-7
@@ -48,9 +48,9 @@ transact-spec =
     -- returns-3
     (λ c. rw (← c .before .before .before .before .before .before .before .is-sized .ensures, not-false (c .before .before .before .before .before .before .before .is-sized .result) (c .before .before .before .before .before .before .if1 .left), ← c .before .before .before .before .has-room .ensures, not-false (c .before .before .before .before .has-room .result) (c .before .before .before .if2 .left), ← c .before .before .is-sampled .ensures, not-true (c .before .before .is-sampled .result) (c .before .if3 .taken), c .unclocked3 .ensures))
     -- valid-requires
-    (λ c κs. search needs)
+    (λ c κs. tt)
     -- unclocked-requires-4
-    (λ c κs. search needs)
+    (λ c κs. tt)
     -- same-length-9
     (λ c. search needs)
     -- same-length-10

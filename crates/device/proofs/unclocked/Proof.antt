@@ -1,6 +1,5 @@
 -- `device::unclocked` meets its contract: no clocks.
 -- Assumes nothing.
-use borrow.Author.Needs.{needs}
 use Rattle.device.proofs.unclocked.Statement.{statement}
 use Rattle.device.proofs.unclocked.Tie as tie
 
@@ -9,6 +8,6 @@ unclocked-spec =
     tie.close
     (tie.spec
     -- none-requires
-    (λ c κs. search needs)
+    (λ c κs. tt)
     -- returns
     (λ c. rw (c .none .ensures)))

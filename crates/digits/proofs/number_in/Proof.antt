@@ -2,7 +2,6 @@
 -- Assumes nothing.
 use Prim.Native.Nat.{_-_}
 use native.Mathlib.Omega.{arith}
-use borrow.Author.Needs.{needs}
 use borrow.Author.Tests.{ne-eqb}
 use lib.ListN.{length}
 use Rattle.digits.proofs.number_in.Statement.{statement}
@@ -17,7 +16,7 @@ abbrev μ-loop : tie.MeasureT-loop
 μ-loop word base most sum₀ i₀ sum i = length word - i
 
 no-number-requires : tie.Need-no-number-requires Inv-loop μ-loop
-no-number-requires c κs = search needs
+no-number-requires c κs = tt
 
 returns : tie.Need-returns Inv-loop μ-loop
 unfolding numberOf
@@ -30,13 +29,13 @@ shared-slice-read-digit : tie.Need-shared-slice-read-digit Inv-loop μ-loop
 shared-slice-read-digit c = omega arith
 
 digit-requires : tie.Need-digit-requires Inv-loop μ-loop
-digit-requires c κs = search needs
+digit-requires c κs = tt
 
 add-i : tie.Need-add-i Inv-loop μ-loop
 add-i c = omega (arith, c .before .before .loop-test .taken)
 
 no-number-requires-2 : tie.Need-no-number-requires-2 Inv-loop μ-loop
-no-number-requires-2 c κs = search needs
+no-number-requires-2 c κs = tt
 
 returns-2 : tie.Need-returns-2 Inv-loop μ-loop
 unfolding numberOf
@@ -52,7 +51,7 @@ add-sum : tie.Need-add-sum Inv-loop μ-loop
 add-sum c = let h = sum-fits {sum = c .before .before .before .before .loop .sum} {base = c .before .before .before .before .before .before .before .args .base} (c .before .before .before .before .loop .inv .small) (omega (arith, c .before .before .before .before .before .before .before .fits .most)) (omega (arith, c .before .before .before .before .before .before .before .fits .base)) in omega arith
 
 no-number-requires-3 : tie.Need-no-number-requires-3 Inv-loop μ-loop
-no-number-requires-3 c κs = search needs
+no-number-requires-3 c κs = tt
 
 returns-3 : tie.Need-returns-3 Inv-loop μ-loop
 unfolding numberOf

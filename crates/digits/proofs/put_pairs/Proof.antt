@@ -2,7 +2,6 @@
 -- Assumes nothing.
 use Prim.Native.Nat.{_-_}
 use native.Mathlib.Omega.{arith}
-use borrow.Author.Needs.{needs}
 use lib.ListN.{length}
 use Rattle.digits.proofs.put_pairs.Statement.{statement}
 use Rattle.digits.specs.Laws.{Pairing, pair-start, pair-turn, pair-end}
@@ -28,10 +27,10 @@ shared-slice-read-pair-2 : tie.Need-shared-slice-read-pair-2 Inv-loop μ-loop
 shared-slice-read-pair-2 c = omega arith
 
 pair-requires : tie.Need-pair-requires Inv-loop μ-loop
-pair-requires c κs = search needs
+pair-requires c κs = tt
 
 put-requires : tie.Need-put-requires Inv-loop μ-loop
-put-requires c κs = search needs
+put-requires c κs = tt
 
 add-i : tie.Need-add-i Inv-loop μ-loop
 add-i c = omega (arith, c .before .before .before .before .before .before .before .loop-test .taken)

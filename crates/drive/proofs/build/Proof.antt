@@ -11,25 +11,25 @@ build-spec =
     tie.close
     (tie.spec
     -- order-of-requires
-    (λ c κs. search needs)
+    (λ c κs. tt)
     -- build-requires
-    (λ c κs. search needs)
+    (λ c κs. tt)
     -- answer-number-requires
-    (λ c κs. search needs)
+    (λ c κs. tt)
     -- put-refusal-requires
-    (λ c κs. search needs)
+    (λ c κs. tt)
     -- flush-to-requires
-    (λ c κs. search needs)
+    (λ c κs. tt)
     -- same-length
     (λ c. search needs)
     -- same-length-2
     (λ c. search needs)
     -- returns
-    (λ c. search needs)
+    (λ c. tt)
     -- same-length-3
     (λ c. search needs)
     -- returns-2
-    (λ c. search needs)
+    (λ c. tt)
     -- slice-reshare-prefix-tell
     (λ c. search needs)
     -- slice-aggregate-tell
@@ -41,4 +41,4 @@ build-spec =
     -- same-length-5
     (λ c. search needs)
     -- returns-3
-    (λ c. search needs))
+    (λ c. tt))

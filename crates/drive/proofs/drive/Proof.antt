@@ -11,13 +11,13 @@ drive-spec =
     tie.close
     (tie.spec
     -- hear-all-requires
-    (λ c κs. search needs)
+    (λ c κs. tt)
     -- ended-requires
-    (λ c κs. search needs)
+    (λ c κs. tt)
     -- is-whole-requires
-    (λ c κs. search needs)
+    (λ c κs. tt)
     -- refuse-requires
-    (λ c κs. search needs)
+    (λ c κs. tt)
     -- same-length
     (λ c. search needs)
     -- same-length-2
@@ -25,19 +25,19 @@ drive-spec =
     -- same-length-3
     (λ c. search needs)
     -- returns
-    (λ c. search needs)
+    (λ c. tt)
     -- same-length-4
     (λ c. search needs)
     -- same-length-5
     (λ c. search needs)
     -- returns-2
-    (λ c. search needs)
+    (λ c. tt)
     -- slice-reshare-prefix-build
     (λ c. search needs)
     -- slice-aggregate-build
     (λ c. sym (length-take-le _ _ (c .before .before .if2 .left)))
     -- build-requires
-    (λ c κs. search needs)
+    (λ c κs. tt)
     -- same-length-6
     (λ c. search needs)
     -- same-length-7
@@ -47,4 +47,4 @@ drive-spec =
     -- same-length-9
     (λ c. search needs)
     -- returns-3
-    (λ c. search needs))
+    (λ c. tt))

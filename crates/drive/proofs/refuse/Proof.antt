@@ -11,14 +11,14 @@ refuse-spec =
     tie.close
     (tie.spec
     -- returns
-    (λ c. search needs)
+    (λ c. tt)
     -- slice-aggregate-put-wrong
     (λ c. sym (length-take-le _ _ (c .before .before .if1 .left)))
     -- put-wrong-requires
-    (λ c κs. search needs)
+    (λ c κs. tt)
     -- flush-to-requires
-    (λ c κs. search needs)
+    (λ c κs. tt)
     -- same-length
     (λ c. search needs)
     -- returns-2
-    (λ c. search needs))
+    (λ c. tt))

@@ -3,7 +3,6 @@
 use mathlib.Core.Path.{_≡_, refl, _∙_}
 use Prim.Native.Nat.{_-_}
 use native.Mathlib.Omega.{arith}
-use borrow.Author.Needs.{needs}
 use lib.ListN.{length}
 use Rattle.edges.proofs.all.Statement.{statement}
 use Rattle.edges.proofs.all.Tie as tie
@@ -18,13 +17,13 @@ loop-holds : tie.Need-loop-holds Inv-loop μ-loop
 loop-holds c = refl
 
 turn-requires : tie.Need-turn-requires Inv-loop μ-loop
-turn-requires c κs = search needs
+turn-requires c κs = tt
 
 same-length : tie.Need-same-length Inv-loop μ-loop
 same-length c = c .before .before .before .turn .kept .0 ∙ c .before .before .before .before .before .before .loop .inv
 
 returns : tie.Need-returns Inv-loop μ-loop
-returns c = search needs
+returns c = tt
 
 add-k : tie.Need-add-k Inv-loop μ-loop
 add-k c = omega (arith, c .before .before .before .before .before .loop-test .taken)
@@ -39,7 +38,7 @@ same-length-2 : tie.Need-same-length-2 Inv-loop μ-loop
 same-length-2 c = c .before .loop .inv
 
 returns-2 : tie.Need-returns-2 Inv-loop μ-loop
-returns-2 c = search needs
+returns-2 c = tt
 
 pub all-spec : {M : Type 1} → statement M
 all-spec =

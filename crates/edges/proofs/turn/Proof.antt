@@ -11,28 +11,28 @@ turn-spec =
     tie.close
     (tie.spec
     -- take-tape-requires
-    (λ c κs. search needs)
+    (λ c κs. tt)
     -- same-length
     (λ c. search needs)
     -- returns
-    (λ c. search needs)
+    (λ c. tt)
     -- same-length-2
     (λ c. search needs)
     -- returns-2
-    (λ c. search needs)
+    (λ c. tt)
     -- too-long-requires
-    (λ c κs. search needs)
+    (λ c κs. tt)
     -- same-length-3
     (λ c. search needs)
     -- returns-3
-    (λ c. search needs)
+    (λ c. tt)
     -- slice-reshare-prefix-play
     (λ c. search needs)
     -- slice-aggregate-play
     (λ c. sym (length-take-le _ _ (c .before .if3 .left)))
     -- play-requires
-    (λ c κs. search needs)
+    (λ c κs. tt)
     -- same-length-4
     (λ c. search needs)
     -- returns-4
-    (λ c. search needs))
+    (λ c. tt))

@@ -14,13 +14,13 @@ data-step-spec =
     -- body-tick-requires
     (λ c κs. search needs)
     -- wires-for-requires
-    (λ c κs. search needs)
+    (λ c κs. tt)
     -- body-for-requires
     (λ c κs. search needs)
     -- hold-requires
     (λ c κs. search needs)
     -- is-full-requires
-    (λ c κs. search needs)
+    (λ c κs. tt)
     -- same-length
     (λ c. search needs)
     -- same-length-2

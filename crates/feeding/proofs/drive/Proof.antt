@@ -19,7 +19,7 @@ drive-spec =
     -- enum-told-4
     (λ c. search needs)
     -- setting-requires
-    (λ c κs. search needs)
+    (λ c κs. tt)
     -- body-for-requires
     (λ c κs. rw (c .setting .ensures) (c .before .before .before .before .before .before .before .pre .0))
     -- driven-at-requires

@@ -16,15 +16,15 @@ hold-spec =
     tie.close
     (tie.spec
     -- shift-in-requires
-    (λ c κs. search needs)
+    (λ c κs. tt)
     -- add-t17
     (λ c. search needs)
     -- unfinished-requires
-    (λ c κs. search needs)
+    (λ c κs. tt)
     -- returns
     (λ c. let h = rw (c .before .before .unfinished .ensures) at (c .if1 .taken) in rw (ne-eqb _ _ h, c .before .before .before .before .shift-in .ensures))
     -- clocks-to-bytes-requires
-    (λ c κs. search needs)
+    (λ c κs. tt)
     -- cast-take-byte
     (λ c. search needs)
     -- take-byte-requires

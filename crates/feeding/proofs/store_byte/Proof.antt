@@ -16,7 +16,7 @@ store-byte-spec =
     -- returns
     (λ c. rw (← c .before .protected-at .ensures, c .if1 .taken) (held-same (holds (c .before .before .before .before .args .s) (c .before .before .before .before .args .latch) (c .before .before .before .before .args .k)) (takenAs (c .before .before .before .before .args .value) (c .before .before .before .before .args .any) (c .before .before .before .before .args .memory .now) (c .before .before .before .before .args .area .now))))
     -- latch-missing-requires
-    (λ c κs. search needs)
+    (λ c κs. tt)
     -- returns-2
     (λ c. rw (← c .before .before .before .protected-at .ensures, c .before .before .if1 .left, ← c .before .latch-missing .ensures, c .if2 .taken))
     -- put-at-requires

@@ -24,7 +24,7 @@ take-byte-spec =
     -- enum-told-4
     (λ c. search needs)
     -- with-byte-requires
-    (λ c κs. search needs)
+    (λ c κs. tt)
     -- enum-told-5
     (λ c. search needs)
     -- store-byte-requires

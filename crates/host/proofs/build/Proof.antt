@@ -13,17 +13,17 @@ build-spec =
     tie.close
     (tie.spec
     -- kind-asked-requires
-    (λ c κs. search needs)
+    (λ c κs. tt)
     -- refusal-requires
-    (λ c κs. search needs)
+    (λ c κs. tt)
     -- is-done-requires
-    (λ c κs. search needs)
+    (λ c κs. tt)
     -- same-length
     (λ c. search needs)
     -- returns
     (λ c. build-refused (orderAs (c .before .before .before .before .before .before .before .args .o) (c .before .before .before .before .before .before .before .args .written .now)) _ (rw (kind-same (c .before .before .before .before .before .before .before .args .o) (c .before .before .before .before .before .before .before .args .written .now) (c .before .before .before .before .kind-asked .ensures)) at (c .before .before .refusal .ensures)) (sym (c .before .is-done .ensures) ∙ not-true (c .before .is-done .result) (c .if1 .taken)))
     -- put-built-requires
-    (λ c κs. search needs)
+    (λ c κs. tt)
     -- same-length-2
     (λ c. search needs)
     -- returns-2

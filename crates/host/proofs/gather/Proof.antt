@@ -12,17 +12,17 @@ gather-spec =
     tie.close
     (tie.spec
     -- refusal-requires
-    (λ c κs. search needs)
+    (λ c κs. tt)
     -- is-done-requires
-    (λ c κs. search needs)
+    (λ c κs. tt)
     -- same-length
     (λ c. search needs)
     -- returns
     (λ c. gather-refused _ _ _ (c .before .before .refusal .ensures) (sym (c .before .is-done .ensures) ∙ not-true (c .before .is-done .result) (c .if1 .taken)))
     -- mode-wires-requires
-    (λ c κs. search needs)
+    (λ c κs. tt)
     -- put-collected-requires
-    (λ c κs. search needs)
+    (λ c κs. tt)
     -- same-length-2
     (λ c. search needs)
     -- returns-2

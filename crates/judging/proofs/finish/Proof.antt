@@ -2,7 +2,6 @@
 -- Assumes nothing.
 use Rattle.paper.specs.Answers.{judge}
 use Rattle.judging.specs.Finish.{outcomeOf}
-use borrow.Author.Needs.{needs}
 use Rattle.judging.proofs.finish.Statement.{statement}
 use Rattle.judging.proofs.finish.Tie as tie
 
@@ -12,10 +11,10 @@ finish-spec =
     tie.close
     (tie.spec
     -- setting-requires
-    (λ c κs. search needs)
+    (λ c κs. tt)
     -- judge-in-requires
     (λ c κs. rw (c .before .before .setting .ensures) (c .before .before .before .pre))
     -- settled-requires
-    (λ c κs. search needs)
+    (λ c κs. tt)
     -- returns
     (λ c. rw (c .settled .ensures, c .before .judge-in .ensures, c .before .before .before .before .setting .ensures)))

@@ -23,11 +23,11 @@ is-reserved-spec =
     -- enum-known-k
     (λ c. search needs)
     -- reserved-requires
-    (λ c κs. search needs)
+    (λ c κs. tt)
     -- enum-told-7
     (λ c. search needs)
     -- reserved-requires-2
-    (λ c κs. search needs)
+    (λ c κs. tt)
     -- enum-told-8
     (λ c. search needs)
     -- enum-told-9

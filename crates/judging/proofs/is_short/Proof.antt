@@ -17,11 +17,11 @@ is-short-spec =
     -- enum-known-b
     (λ c. search needs)
     -- clocks-to-bytes-requires
-    (λ c κs. search needs)
+    (λ c κs. tt)
     -- enum-told-4
     (λ c. search needs)
     -- clocks-to-bytes-requires-2
-    (λ c κs. search needs)
+    (λ c κs. tt)
     -- returns
     (λ c. search needs)
     -- returns-2

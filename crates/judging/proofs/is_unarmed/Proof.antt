@@ -1,7 +1,6 @@
 -- `judging::is_unarmed` meets its contract: a reset counts where 66 was not just before.
 -- Assumes nothing.
 use Rattle.paper.specs.Answers.{unarmed}
-use borrow.Author.Needs.{needs}
 use Rattle.judging.proofs.is_unarmed.Statement.{statement}
 use Rattle.judging.proofs.is_unarmed.Tie as tie
 
@@ -11,7 +10,7 @@ is-unarmed-spec =
     tie.close
     (tie.spec
     -- is-reset-requires
-    (λ c κs. search needs)
+    (λ c κs. tt)
     -- returns
     (λ c. rw (← c .before .is-reset .ensures, c .if1 .taken))
     -- returns-2

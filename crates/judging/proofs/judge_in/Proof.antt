@@ -10,19 +10,19 @@ judge-in-spec =
     tie.close
     (tie.spec
     -- command-clocks-requires
-    (λ c κs. search needs)
+    (λ c κs. tt)
     -- returns
     (λ c. rw (← c .before .before .before .command-clocks .ensures, lt-ltb _ _ (c .if1 .taken)))
     -- asleep-for-requires
-    (λ c κs. search needs)
+    (λ c κs. tt)
     -- returns-2
     (λ c. rw (← c .before .before .before .before .before .command-clocks .ensures, le-ltb _ _ (c .before .before .if1 .left), ← c .before .asleep-for .ensures, c .if2 .taken))
     -- is-unknown-requires
-    (λ c κs. search needs)
+    (λ c κs. tt)
     -- returns-3
     (λ c. rw (← c .before .before .before .before .before .before .before .command-clocks .ensures, le-ltb _ _ (c .before .before .before .before .if1 .left), ← c .before .before .before .asleep-for .ensures, c .before .before .if2 .left, ← c .before .is-unknown .ensures, c .if3 .taken))
     -- address-clocks-requires
-    (λ c κs. search needs)
+    (λ c κs. tt)
     -- returns-4
     (λ c. rw (← c .before .before .before .before .before .before .before .before .before .before .before .command-clocks .ensures, le-ltb _ _ (c .before .before .before .before .before .before .before .before .if1 .left), ← c .before .before .before .before .before .before .before .asleep-for .ensures, c .before .before .before .before .before .before .if2 .left, ← c .before .before .before .before .before .is-unknown .ensures, c .before .before .before .before .if3 .left, ← c .before .before .before .address-clocks .ensures, lt-ltb _ _ (c .if4 .taken)))
     -- refused-at-requires

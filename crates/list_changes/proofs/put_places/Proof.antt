@@ -25,7 +25,7 @@ put-places-spec =
     -- shared-slice-read-x
     (λ c. omega arith)
     -- byte-at-requires
-    (λ c κs. search needs)
+    (λ c κs. tt)
     -- tell-requires
     (λ c κs. search needs)
     -- add-i
@@ -35,8 +35,8 @@ put-places-spec =
     -- loop-again
     (λ c. search needs)
     -- put-others-requires
-    (λ c κs. search needs)
+    (λ c κs. tt)
     -- same-length
     (λ c. search needs)
     -- returns
-    (λ c. search needs))
+    (λ c. tt))

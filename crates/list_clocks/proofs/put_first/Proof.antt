@@ -13,10 +13,10 @@ put-first-spec =
     -- slice-aggregate-put-row
     (λ c. sym (length-take-le _ _ (c .before .before .if1 .taken)))
     -- put-row-requires
-    (λ c κs. search needs)
+    (λ c κs. tt)
     -- same-length
     (λ c. search needs)
     -- returns
-    (λ c. search needs)
+    (λ c. tt)
     -- returns-2
-    (λ c. search needs))
+    (λ c. tt))

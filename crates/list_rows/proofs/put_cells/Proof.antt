@@ -21,13 +21,13 @@ put-cells-spec =
     Inv-loop
     μ-loop
     -- least-requires
-    (λ c κs. search needs)
+    (λ c κs. tt)
     -- loop-holds
     (λ c. search needs)
     -- byte-at-requires
-    (λ c κs. search needs)
+    (λ c κs. tt)
     -- put-cell-requires
-    (λ c κs. search needs)
+    (λ c κs. tt)
     -- add-i
     (λ c. omega arith)
     -- loop-less
@@ -37,4 +37,4 @@ put-cells-spec =
     -- same-length
     (λ c. search needs)
     -- returns
-    (λ c. search needs))
+    (λ c. tt))

@@ -23,7 +23,7 @@ put-spaces-spec =
     -- loop-holds
     (λ c. search needs)
     -- put-requires
-    (λ c κs. search needs)
+    (λ c κs. tt)
     -- add-i
     (λ c. omega arith)
     -- loop-less
@@ -33,4 +33,4 @@ put-spaces-spec =
     -- same-length
     (λ c. search needs)
     -- returns
-    (λ c. search needs))
+    (λ c. tt))

@@ -24,7 +24,7 @@ first-above-spec =
     -- shared-slice-read-x
     (λ c. omega arith)
     -- returns
-    (λ c. search needs)
+    (λ c. tt)
     -- add-i
     (λ c. omega arith)
     -- loop-less
@@ -32,4 +32,4 @@ first-above-spec =
     -- loop-again
     (λ c. search needs)
     -- returns-2
-    (λ c. search needs))
+    (λ c. tt))

@@ -25,13 +25,13 @@ gather-spec =
     -- shared-slice-read-x
     (λ c. omega arith)
     -- levels-requires
-    (λ c κs. search needs)
+    (λ c κs. tt)
     -- shift-in-requires
-    (λ c κs. search needs)
+    (λ c κs. tt)
     -- add-i
     (λ c. omega arith)
     -- keep-byte-requires
-    (λ c κs. search needs)
+    (λ c κs. tt)
     -- loop-less
     (λ c. omega arith)
     -- loop-again
@@ -39,4 +39,4 @@ gather-spec =
     -- same-length
     (λ c. search needs)
     -- returns
-    (λ c. search needs))
+    (λ c. tt))

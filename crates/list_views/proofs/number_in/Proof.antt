@@ -21,9 +21,9 @@ number-in-spec =
     -- loop-holds
     (λ c. search needs)
     -- byte-at-requires
-    (λ c κs. search needs)
+    (λ c κs. tt)
     -- shift-in-requires
-    (λ c κs. search needs)
+    (λ c κs. tt)
     -- add-i
     (λ c. omega arith)
     -- loop-less
@@ -31,4 +31,4 @@ number-in-spec =
     -- loop-again
     (λ c. search needs)
     -- returns
-    (λ c. search needs))
+    (λ c. tt))

@@ -13,10 +13,10 @@ keep-spec =
     -- slice-aggregate-put-all
     (λ c. sym (length-take-le _ _ (c .before .before .if1 .taken)))
     -- put-all-requires
-    (λ c κs. search needs)
+    (λ c κs. tt)
     -- same-length
     (λ c. search needs)
     -- returns
-    (λ c. search needs)
+    (λ c. tt)
     -- returns-2
-    (λ c. search needs))
+    (λ c. tt))

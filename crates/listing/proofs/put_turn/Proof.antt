@@ -11,20 +11,20 @@ put-turn-spec =
     tie.close
     (tie.spec
     -- returns
-    (λ c. search needs)
+    (λ c. tt)
     -- returns-2
-    (λ c. search needs)
+    (λ c. tt)
     -- entry-at-requires
-    (λ c κs. search needs)
+    (λ c κs. tt)
     -- put-head-requires
-    (λ c κs. search needs)
+    (λ c κs. tt)
     -- slice-aggregate-put-played
     (λ c. sym (length-take-le _ _ (c .before .before .before .before .before .before .before .before .if1 .left)))
     -- slice-aggregate-put-played-2
     (λ c. sym (length-take-le _ _ (c .before .before .before .before .before .before .before .before .if2 .left)))
     -- put-played-requires
-    (λ c κs. search needs)
+    (λ c κs. tt)
     -- same-length
     (λ c. search needs)
     -- returns-3
-    (λ c. search needs))
+    (λ c. tt))

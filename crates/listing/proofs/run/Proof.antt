@@ -3,7 +3,6 @@
 use mathlib.Core.Path.{_≡_, refl, _∙_}
 use Prim.Native.Nat.{ℕ, _-_}
 use native.Mathlib.Omega.{arith}
-use borrow.Author.Needs.{needs}
 use mathlib.Core.List.{List}
 use lib.ListN.{length}
 use Rattle.listing.proofs.run.Statement.{statement}
@@ -26,7 +25,7 @@ abbrev μ-loop : tie.MeasureT-loop
     16385 - k
 
 start-requires : tie.Need-start-requires Inv-loop μ-loop
-start-requires c κs = search needs
+start-requires c κs = tt
 
 loop-holds : tie.Need-loop-holds Inv-loop μ-loop
 loop-holds c = record { memory = refl; area = refl; output = refl; memory0 = refl; area0 = refl; page = refl }
@@ -35,7 +34,7 @@ add-k : tie.Need-add-k Inv-loop μ-loop
 add-k c = omega (arith, c .before .loop-test .taken)
 
 turn-requires : tie.Need-turn-requires Inv-loop μ-loop
-turn-requires c κs = search needs
+turn-requires c κs = tt
 
 loop-less : tie.Need-loop-less Inv-loop μ-loop
 loop-less c = omega (arith, c .before .before .before .before .before .before .before .before .before .before .before .before .before .before .before .before .before .before .before .before .loop-test .taken)
@@ -47,7 +46,7 @@ loop-again c =
     record { memory = t .1 .1 .1 .0 ∙ f .memory; area = t .1 .1 .1 .1 .0 ∙ f .area; output = t .1 .1 .1 .1 .1 .0 ∙ f .output; memory0 = t .1 .1 .1 .1 .1 .1 .0 ∙ f .memory0; area0 = t .1 .1 .1 .1 .1 .1 .1 .0 ∙ f .area0; page = t .1 .1 .1 .1 .1 .1 .1 .1 .0 ∙ f .page }
 
 flush-requires : tie.Need-flush-requires Inv-loop μ-loop
-flush-requires c κs = search needs
+flush-requires c κs = tt
 
 same-length : tie.Need-same-length Inv-loop μ-loop
 same-length c = c .before .before .before .loop .inv .memory
@@ -68,7 +67,7 @@ same-length-6 : tie.Need-same-length-6 Inv-loop μ-loop
 same-length-6 c = c .before .before .before .loop .inv .page
 
 returns : tie.Need-returns Inv-loop μ-loop
-returns c = search needs
+returns c = tt
 
 pub run-spec : {M : Type 1} → statement M
 run-spec =

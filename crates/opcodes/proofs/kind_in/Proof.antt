@@ -1,6 +1,5 @@
 -- `opcodes::kind_in` meets its contract: the test is the definition's.
 -- Assumes nothing.
-use borrow.Author.Needs.{needs}
 use Rattle.opcodes.proofs.kind_in.Statement.{statement}
 use Rattle.opcodes.proofs.kind_in.Tie as tie
 
@@ -9,7 +8,7 @@ kind-in-spec =
     tie.close
     (tie.spec
     -- in-modes-requires
-    (λ c κs. search needs)
+    (λ c κs. tt)
     -- returns
     (λ c. rw (← c .before .in-modes .ensures, c .if1 .taken))
     -- returns-2

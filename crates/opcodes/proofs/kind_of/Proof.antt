@@ -12,15 +12,15 @@ kind-of-spec =
     tie.close
     (tie.spec
     -- row-of-requires
-    (λ c κs. search needs)
+    (λ c κs. tt)
     -- enum-told
     (λ c. search needs)
     -- kind-in-requires
-    (λ c κs. search needs)
+    (λ c κs. tt)
     -- enum-told-2
     (λ c. search needs)
     -- kind-in-requires-2
-    (λ c κs. search needs)
+    (λ c κs. tt)
     -- returns
     (λ c. rw (c .before .enum-told .given .1) (c .kind-in .ensures ∙ ap (λ (r : Row). kindIn (r .kindm) (r .modesm) (c .before .before .before .before .args .w)) (c .before .before .before .row-of .ensures)))
     -- returns-2

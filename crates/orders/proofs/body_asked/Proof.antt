@@ -1,6 +1,5 @@
 -- `orders::body_asked` meets its contract: the plan's body, but for 65.
 -- Assumes nothing.
-use borrow.Author.Needs.{needs}
 use Rattle.orders.proofs.body_asked.Statement.{statement}
 use Rattle.orders.proofs.body_asked.Tie as tie
 
@@ -9,10 +8,10 @@ body-asked-spec =
     tie.close
     (tie.spec
     -- of-requires
-    (λ c κs. search needs)
+    (λ c κs. tt)
     -- body-of-requires
-    (λ c κs. search needs)
+    (λ c κs. tt)
     -- asked-of-requires
-    (λ c κs. search needs)
+    (λ c κs. tt)
     -- returns
     (λ c. rw (c .asked-of .ensures, c .before .body-of .ensures, c .before .before .of .ensures)))

@@ -2,7 +2,6 @@
 -- Assumes nothing.
 use borrow.Author.Tests.{not-true, not-false}
 use Rattle.paper.specs.Building.{beyond}
-use borrow.Author.Needs.{needs}
 use Rattle.orders.proofs.is_beyond.Statement.{statement}
 use Rattle.orders.proofs.is_beyond.Tie as tie
 
@@ -12,9 +11,9 @@ is-beyond-spec =
     tie.close
     (tie.spec
     -- address-of-requires
-    (λ c κs. search needs)
+    (λ c κs. tt)
     -- is-addressed-requires
-    (λ c κs. search needs)
+    (λ c κs. tt)
     -- returns
     (λ c. rw (← c .before .before .address-of .ensures, ← c .before .is-addressed .ensures, not-true (c .before .is-addressed .result) (c .if1 .taken)))
     -- returns-2

@@ -11,7 +11,7 @@ is-many-spec =
     -- enum-told
     (λ c. search needs)
     -- is-any-requires
-    (λ c κs. search needs)
+    (λ c κs. tt)
     -- enum-known-b
     (λ c. search needs)
     -- enum-told-2

@@ -2,7 +2,6 @@
 -- Assumes nothing.
 use borrow.Author.Tests.{not-true, not-false}
 use Rattle.paper.specs.Building.{overlong}
-use borrow.Author.Needs.{needs}
 use Rattle.orders.proofs.is_overlong_wait.Statement.{statement}
 use Rattle.orders.proofs.is_overlong_wait.Tie as tie
 
@@ -12,7 +11,7 @@ is-overlong-wait-spec =
     tie.close
     (tie.spec
     -- waits-by-register-requires
-    (λ c κs. search needs)
+    (λ c κs. tt)
     -- returns
     (λ c. rw (← c .before .waits-by-register .ensures, not-true (c .before .waits-by-register .result) (c .if1 .taken)))
     -- returns-2

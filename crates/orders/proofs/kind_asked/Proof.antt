@@ -2,7 +2,6 @@
 -- Assumes nothing.
 use borrow.Author.Tests.{not-true, not-false}
 use Rattle.paper.specs.Building.{kindAsked}
-use borrow.Author.Needs.{needs}
 use Rattle.orders.proofs.kind_asked.Statement.{statement}
 use Rattle.orders.proofs.kind_asked.Tie as tie
 
@@ -12,18 +11,18 @@ kind-asked-spec =
     tie.close
     (tie.spec
     -- is-known-requires
-    (λ c κs. search needs)
+    (λ c κs. tt)
     -- returns
     (λ c. rw (← c .before .is-known .ensures, not-true (c .before .is-known .result) (c .if1 .taken)))
     -- of-requires
-    (λ c κs. search needs)
+    (λ c κs. tt)
     -- mode-allowed-requires
-    (λ c κs. search needs)
+    (λ c κs. tt)
     -- returns-2
     (λ c. rw (← c .before .before .before .before .is-known .ensures, not-false (c .before .before .before .before .is-known .result) (c .before .before .before .if1 .left), ← c .before .before .of .ensures, ← c .before .mode-allowed .ensures, not-true (c .before .mode-allowed .result) (c .if2 .taken)))
     -- mode-wires-requires
-    (λ c κs. search needs)
+    (λ c κs. tt)
     -- kind-of-requires
-    (λ c κs. search needs)
+    (λ c κs. tt)
     -- returns-3
     (λ c. rw (← c .before .before .before .before .before .before .is-known .ensures, not-false (c .before .before .before .before .before .before .is-known .result) (c .before .before .before .before .before .if1 .left), ← c .before .before .before .before .of .ensures, ← c .before .before .before .mode-allowed .ensures, not-false (c .before .before .before .mode-allowed .result) (c .before .before .if2 .left), c .kind-of .ensures, c .before .mode-wires .ensures)))

@@ -11,24 +11,24 @@ build-spec =
     tie.close
     (tie.spec
     -- bytes-in-requires
-    (λ c κs. search needs)
+    (λ c κs. tt)
     -- fill-requires
-    (λ c κs. search needs)
+    (λ c κs. tt)
     -- same-length
     (λ c. search needs)
     -- returns
-    (λ c. search needs)
+    (λ c. tt)
     -- order-requires
-    (λ c κs. search needs)
+    (λ c κs. tt)
     -- slice-reshare-prefix-build
     (λ c. search needs)
     -- slice-aggregate-build
     (λ c. sym (length-take-le _ _ (c .before .before .if1 .left)))
     -- build-requires
-    (λ c κs. search needs)
+    (λ c κs. tt)
     -- same-length-2
     (λ c. search needs)
     -- same-length-3
     (λ c. search needs)
     -- returns-2
-    (λ c. search needs))
+    (λ c. tt))

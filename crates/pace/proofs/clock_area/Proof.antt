@@ -11,20 +11,20 @@ clock-area-spec =
     tie.close
     (tie.spec
     -- of-requires
-    (λ c κs. search needs)
+    (λ c κs. tt)
     -- area-requires
-    (λ c κs. search needs)
+    (λ c κs. tt)
     -- returns
-    (λ c. search needs)
+    (λ c. tt)
     -- array-borrow-prefix-area
     (λ c. search needs)
     -- slice-aggregate-clocked-all
     (λ c. sym (length-take-le _ _ (c .before .before .if1 .left)))
     -- clocked-all-requires
-    (λ c κs. search needs)
+    (λ c κs. tt)
     -- same-length
     (λ c. search needs)
     -- same-length-2
     (λ c. search needs)
     -- returns-2
-    (λ c. search needs))
+    (λ c. tt))

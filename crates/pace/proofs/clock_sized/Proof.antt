@@ -11,17 +11,17 @@ clock-sized-spec =
     tie.close
     (tie.spec
     -- returns
-    (λ c. search needs)
+    (λ c. tt)
     -- memory-size-requires
     (λ c κs. search needs)
     -- returns-2
-    (λ c. search needs)
+    (λ c. tt)
     -- slice-relend-prefix-clock
     (λ c. search needs)
     -- slice-aggregate-clock
     (λ c. sym (length-take-le _ _ (c .before .if2 .left)))
     -- clock-requires
-    (λ c κs. search needs)
+    (λ c κs. tt)
     -- same-length
     (λ c. search needs)
     -- same-length-2
@@ -29,4 +29,4 @@ clock-sized-spec =
     -- same-length-3
     (λ c. search needs)
     -- returns-3
-    (λ c. search needs))
+    (λ c. tt))

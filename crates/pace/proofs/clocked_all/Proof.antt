@@ -55,7 +55,7 @@ same-length-3 : tie.Need-same-length-3 Inv-loop μ-loop
 same-length-3 c = c .before .loop .inv .output
 
 returns : tie.Need-returns Inv-loop μ-loop
-returns c = search needs
+returns c = tt
 
 pub clocked-all-spec : {M : Type 1} → statement M
 clocked-all-spec =

@@ -4,7 +4,6 @@ use mathlib.Core.Path.{_≡_, refl}
 use lib.ListN.{length-set}
 use Prim.Native.Nat.{_-_}
 use native.Mathlib.Omega.{arith}
-use borrow.Author.Needs.{needs}
 use lib.ListN.{length}
 use Rattle.pace.proofs.fill.Statement.{statement}
 use Rattle.pace.proofs.fill.Tie as tie
@@ -22,7 +21,7 @@ cast-level : tie.Need-cast-level Inv-loop μ-loop
 cast-level c = omega arith
 
 level-requires : tie.Need-level-requires Inv-loop μ-loop
-level-requires c κs = search needs
+level-requires c κs = tt
 
 slice-write-b : tie.Need-slice-write-b Inv-loop μ-loop
 slice-write-b c = omega arith
@@ -40,7 +39,7 @@ same-length : tie.Need-same-length Inv-loop μ-loop
 same-length c = c .before .loop .inv
 
 returns : tie.Need-returns Inv-loop μ-loop
-returns c = search needs
+returns c = tt
 
 pub fill-spec : {M : Type 1} → statement M
 fill-spec =

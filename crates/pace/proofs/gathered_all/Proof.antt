@@ -3,7 +3,6 @@
 use mathlib.Core.Path.{_≡_, refl, _∙_}
 use Prim.Native.Nat.{_-_, _≤_}
 use native.Mathlib.Omega.{arith}
-use borrow.Author.Needs.{needs}
 use lib.ListN.{length}
 use Rattle.pace.proofs.gathered_all.Statement.{statement}
 use Rattle.pace.proofs.gathered_all.Tie as tie
@@ -21,7 +20,7 @@ add-k : tie.Need-add-k Inv-loop μ-loop
 add-k c = omega (arith, c .loop-test .taken)
 
 gathered-requires : tie.Need-gathered-requires Inv-loop μ-loop
-gathered-requires c κs = search needs
+gathered-requires c κs = tt
 
 loop-less : tie.Need-loop-less Inv-loop μ-loop
 loop-less c = omega (arith, c .before .before .before .before .before .loop-test .taken)
@@ -42,7 +41,7 @@ same-length : tie.Need-same-length Inv-loop μ-loop
 same-length c = c .before .loop .inv .0
 
 returns : tie.Need-returns Inv-loop μ-loop
-returns c = search needs
+returns c = tt
 
 pub gathered-all-spec : {M : Type 1} → statement M
 gathered-all-spec =

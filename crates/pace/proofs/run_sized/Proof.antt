@@ -13,9 +13,9 @@ run-sized-spec =
     -- cast-clocks
     (λ c. search needs)
     -- returns
-    (λ c. search needs)
+    (λ c. tt)
     -- returns-2
-    (λ c. search needs)
+    (λ c. tt)
     -- slice-relend-prefix-run
     (λ c. search needs)
     -- slice-aggregate-run
@@ -25,7 +25,7 @@ run-sized-spec =
     -- slice-aggregate-run-2
     (λ c. sym (length-take-le _ _ (c .before .before .before .if2 .left)))
     -- run-requires
-    (λ c κs. search needs)
+    (λ c κs. tt)
     -- same-length
     (λ c. search needs)
     -- same-length-2
@@ -33,4 +33,4 @@ run-sized-spec =
     -- same-length-3
     (λ c. search needs)
     -- returns-3
-    (λ c. search needs))
+    (λ c. tt))

@@ -2,7 +2,6 @@
 -- Assumes nothing.
 use native.Mathlib.Nat.{mul-le-mul}
 use native.Mathlib.Omega.{arith}
-use borrow.Author.Needs.{needs}
 use Rattle.pace.proofs.total.Statement.{statement}
 use Rattle.pace.proofs.total.Tie as tie
 
@@ -13,4 +12,4 @@ total-spec =
     -- mul-result
     (λ c. let h = mul-le-mul {n₁ = c .args .done} {m₁ = c .args .clocks} {n₂ = 4294967295} {m₂ = 4294967295} (omega (arith, c .fits .done)) (omega (arith, c .fits .clocks)) in omega arith)
     -- returns
-    (λ c. search needs))
+    (λ c. tt))

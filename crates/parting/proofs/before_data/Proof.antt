@@ -5,7 +5,6 @@ use mathlib.Core.List.{[]}
 use Rattle.feeding.specs.Views.{runAs}
 use Rattle.clocking.specs.Machine.{beginOf}
 use Rattle.parting.specs.Laws.{go-start, go-on, go-advancing}
-use borrow.Author.Needs.{needs}
 use Rattle.parting.proofs.before_data.Statement.{statement}
 use Rattle.parting.proofs.before_data.Tie as tie
 
@@ -14,15 +13,15 @@ before-data-spec =
     tie.close
     (tie.spec
     -- setting-requires
-    (λ c κs. search needs)
+    (λ c κs. tt)
     -- begin-requires
-    (λ c κs. search needs)
+    (λ c κs. tt)
     -- command-clocks-requires
-    (λ c κs. search needs)
+    (λ c κs. tt)
     -- advance-requires
     (λ c κs. rw (c .before .before .before .before .begin .ensures) (go-advancing (c .before .before .before .before .before .before .before .before .before .before .pre) (go-start {r = runAs beginOf [] []} refl)))
     -- address-clocks-requires
-    (λ c κs. search needs)
+    (λ c κs. tt)
     -- advance-requires-2
     (λ c κs. go-advancing (c .before .before .before .before .before .before .before .before .before .before .before .before .before .before .before .before .before .before .before .before .before .pre) (go-on (go-start refl) (rw (c .before .before .before .before .before .before .before .before .before .before .before .before .before .before .before .begin .ensures) at (c .before .before .before .before .before .before .before .before .before .before .advance .ensures))))
     -- wait-clocks-requires

@@ -11,13 +11,13 @@ clocked-spec =
     tie.close
     (tie.spec
     -- setting-requires
-    (λ c κs. search needs)
+    (λ c κs. tt)
     -- before-data-requires
     (λ c κs. search needs)
     -- body-for-requires
     (λ c κs. rw (c .before .before .before .before .before .before .before .before .before .before .setting .ensures) (c .before .before .before .before .before .before .before .before .before .before .before .before .before .before .before .pre .reach))
     -- wires-for-requires
-    (λ c κs. search needs)
+    (λ c κs. tt)
     -- data-clocks-requires
     (λ c κs. search needs)
     -- advance-requires

@@ -3,7 +3,6 @@
 use borrow.Author.Tests.{lt-ltb, le-ltb}
 use native.Mathlib.Nat.{le-trans, div-le-self}
 use Rattle.parting.specs.Parting.{fixedOf}
-use borrow.Author.Needs.{needs}
 use Rattle.parting.proofs.fixed_clocks.Statement.{statement}
 use Rattle.parting.proofs.fixed_clocks.Tie as tie
 
@@ -13,7 +12,7 @@ fixed-clocks-spec =
     tie.close
     (tie.spec
     -- clocks-to-bytes-requires
-    (λ c κs. search needs)
+    (λ c κs. tt)
     -- returns
     (λ c. let h = rw (c .before .before .before .clocks-to-bytes .ensures) at (c .if1 .taken) in rw (lt-ltb _ _ h))
     -- bytes-to-clocks-requires

@@ -1,7 +1,6 @@
 -- `phases::address_clocks` meets its contract: none where the answer is decided.
 -- Assumes nothing.
 use Rattle.paper.specs.InForce.{addressClocks}
-use borrow.Author.Needs.{needs}
 use Rattle.phases.proofs.address_clocks.Statement.{statement}
 use Rattle.phases.proofs.address_clocks.Tie as tie
 
@@ -11,14 +10,14 @@ address-clocks-spec =
     tie.close
     (tie.spec
     -- is-stopped-requires
-    (λ c κs. search needs)
+    (λ c κs. tt)
     -- returns
     (λ c. rw (← c .before .is-stopped .ensures, c .if1 .taken))
     -- address-of-requires
-    (λ c κs. search needs)
+    (λ c κs. tt)
     -- wires-for-requires
-    (λ c κs. search needs)
+    (λ c κs. tt)
     -- address-length-requires
-    (λ c κs. search needs)
+    (λ c κs. tt)
     -- returns-2
     (λ c. rw (← c .before .before .before .before .is-stopped .ensures, c .before .before .before .if1 .left, c .address-length .ensures, c .before .wires-for .ensures, c .before .before .address-of .ensures)))

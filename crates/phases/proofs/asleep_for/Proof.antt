@@ -1,7 +1,6 @@
 -- `phases::asleep_for` meets its contract: sleep decides, and then the command.
 -- Assumes nothing.
 use Rattle.paper.specs.InForce.{asleepFor}
-use borrow.Author.Needs.{needs}
 use Rattle.phases.proofs.asleep_for.Statement.{statement}
 use Rattle.phases.proofs.asleep_for.Tie as tie
 
@@ -11,7 +10,7 @@ asleep-for-spec =
     tie.close
     (tie.spec
     -- is-waking-requires
-    (λ c κs. search needs)
+    (λ c κs. tt)
     -- returns
     (λ c. rw (c .before .if1 .taken, c .is-waking .ensures))
     -- returns-2

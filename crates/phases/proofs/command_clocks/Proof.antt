@@ -1,5 +1,6 @@
 -- `phases::command_clocks` meets its contract: one byte.
 -- Assumes nothing.
+use native.Mathlib.Nat.{one-mul}
 use Rattle.paper.specs.InForce.{commandClocks}
 use borrow.Author.Needs.{needs}
 use Rattle.phases.proofs.command_clocks.Statement.{statement}
@@ -13,4 +14,4 @@ command-clocks-spec =
     -- bytes-to-clocks-requires
     (λ c κs. search needs)
     -- returns
-    (λ c. rw (c .bytes-to-clocks .ensures)))
+    (λ c. rw (c .bytes-to-clocks .ensures, one-mul)))

@@ -11,7 +11,7 @@ is-decided-spec =
     tie.close
     (tie.spec
     -- is-stopped-requires
-    (λ c κs. search needs)
+    (λ c κs. tt)
     -- returns
     (λ c. rw (← c .before .is-stopped .ensures, c .if1 .taken))
     -- refused-at-requires

@@ -11,7 +11,7 @@ refused-at-spec =
     tie.close
     (tie.spec
     -- address-of-requires
-    (λ c κs. search needs)
+    (λ c κs. tt)
     -- allowed-requires
     (λ c κs. search needs)
     -- returns

@@ -1,7 +1,6 @@
 -- `phases::wires_for` meets its contract: what the callee gives.
 -- Assumes nothing.
 use Rattle.paper.specs.InForce.{wiresFor}
-use borrow.Author.Needs.{needs}
 use Rattle.phases.proofs.wires_for.Statement.{statement}
 use Rattle.phases.proofs.wires_for.Tie as tie
 
@@ -11,6 +10,6 @@ wires-for-spec =
     tie.close
     (tie.spec
     -- later-wires-requires
-    (λ c κs. search needs)
+    (λ c κs. tt)
     -- returns
     (λ c. rw (c .later-wires .ensures)))

@@ -17,13 +17,13 @@ allowed-spec =
     -- enum-told-3
     (λ c. search needs)
     -- area-requires
-    (λ c κs. search needs)
+    (λ c κs. tt)
     -- enum-told-4
     (λ c. search needs)
     -- register-at-requires
-    (λ c κs. search needs)
+    (λ c κs. tt)
     -- is-mapped-requires
-    (λ c κs. search needs)
+    (λ c κs. tt)
     -- enum-told-5
     (λ c. search needs)
     -- enum-told-6

@@ -12,7 +12,7 @@ area-place-spec =
     -- enum-told
     (λ c. search needs)
     -- area-requires
-    (λ c κs. search needs)
+    (λ c κs. tt)
     -- place-in-requires
     (λ c κs. rw (c .area .ensures, c .before .enum-told .given .1) (record { store = lit< tt; group = lit< tt; few = c .before .before .before .pre }))
     -- enum-told-2

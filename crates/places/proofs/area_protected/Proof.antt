@@ -13,7 +13,7 @@ area-protected-spec =
     -- enum-told
     (λ c. search needs)
     -- section-shut-requires
-    (λ c κs. search needs)
+    (λ c κs. tt)
     -- enum-told-2
     (λ c. search needs)
     -- returns

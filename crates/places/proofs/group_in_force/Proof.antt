@@ -1,6 +1,5 @@
 -- `places::group_in_force` meets its contract: the toggle decides.
 -- Assumes nothing.
-use borrow.Author.Needs.{needs}
 use Rattle.places.proofs.group_in_force.Statement.{statement}
 use Rattle.places.proofs.group_in_force.Tie as tie
 
@@ -11,6 +10,6 @@ group-in-force-spec =
     -- returns
     (λ c. rw (c .if1 .taken))
     -- group-length-requires
-    (λ c κs. search needs)
+    (λ c κs. tt)
     -- returns-2
     (λ c. rw (c .before .if1 .left) (c .group-length .ensures)))

@@ -17,7 +17,7 @@ shut-memory-spec =
     -- memory-size-requires
     (λ c κs. search needs)
     -- share-requires
-    (λ c κs. search needs)
+    (λ c κs. tt)
     -- mul-shut
     (λ c. rw (c .before .memory-size .ensures, c .share .ensures) (omega (arith, shut-le (c .before .before .args .n) (c .before .before .args .status), size-small (c .before .before .args .n) (c .before .before .pre))))
     -- returns

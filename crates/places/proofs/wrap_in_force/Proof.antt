@@ -11,7 +11,7 @@ wrap-in-force-spec =
     tie.close
     (tie.spec
     -- wrap-length-requires
-    (λ c κs. search needs)
+    (λ c κs. tt)
     -- returns
     (λ c. rw (c .before .if1 .taken) (c .wrap-length .ensures))
     -- memory-size-requires

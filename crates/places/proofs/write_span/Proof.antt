@@ -17,7 +17,7 @@ write-span-spec =
     -- enum-told-2
     (λ c. search needs)
     -- group-in-force-requires
-    (λ c κs. search needs)
+    (λ c κs. tt)
     -- returns
     (λ c. rw (c .before .enum-told .given .1, c .memory-size .ensures))
     -- returns-2

@@ -4,7 +4,6 @@ use mathlib.Core.Path.{_≡_, refl, _∙_}
 use Prim.Native.Nat.{ℕ, _-_}
 use native.Mathlib.Omega.{arith}
 use mathlib.Core.List.{List}
-use borrow.Author.Needs.{needs}
 use lib.ListN.{length}
 use Rattle.playing.proofs.run.Statement.{statement}
 use Rattle.playing.proofs.run.Tie as tie
@@ -23,10 +22,10 @@ abbrev μ-loop : tie.MeasureT-loop
 μ-loop tape memory₀ area₀ output₀ text₀ st₀ k₀ memory area output text st k = 16385 - k
 
 header-requires : tie.Need-header-requires Inv-loop μ-loop
-header-requires c κs = search needs
+header-requires c κs = tt
 
 start-requires : tie.Need-start-requires Inv-loop μ-loop
-start-requires c κs = search needs
+start-requires c κs = tt
 
 loop-holds : tie.Need-loop-holds Inv-loop μ-loop
 loop-holds c = record { memory = refl; area = refl; output = refl; text = refl }
@@ -35,7 +34,7 @@ add-k : tie.Need-add-k Inv-loop μ-loop
 add-k c = omega (arith, c .before .loop-test .taken)
 
 turn-requires : tie.Need-turn-requires Inv-loop μ-loop
-turn-requires c κs = search needs
+turn-requires c κs = tt
 
 loop-less : tie.Need-loop-less Inv-loop μ-loop
 loop-less c = omega (arith, c .before .before .before .before .before .before .before .before .before .before .before .before .before .before .loop-test .taken)
@@ -44,7 +43,7 @@ loop-again : tie.Need-loop-again Inv-loop μ-loop
 loop-again c = let i = c .before .before .before .before .before .before .before .before .before .before .before .before .before .before .before .loop .inv in let h = c .before .before .before .before .before .before .before .before .turn .kept in record { memory = h .1 .1 .1 .1 .0 ∙ i .memory; area = h .1 .1 .1 .1 .1 .0 ∙ i .area; output = h .1 .1 .1 .1 .1 .1 .0 ∙ i .output; text = h .1 .1 .1 .1 .1 .1 .1 .0 ∙ i .text }
 
 flush-requires : tie.Need-flush-requires Inv-loop μ-loop
-flush-requires c κs = search needs
+flush-requires c κs = tt
 
 same-length : tie.Need-same-length Inv-loop μ-loop
 same-length c = c .before .before .before .loop .inv .memory
@@ -59,7 +58,7 @@ same-length-4 : tie.Need-same-length-4 Inv-loop μ-loop
 same-length-4 c = c .before .before .before .loop .inv .text ∙ c .before .before .before .before .before .before .before .header .kept .0
 
 returns : tie.Need-returns Inv-loop μ-loop
-returns c = search needs
+returns c = tt
 
 pub run-spec : {M : Type 1} → statement M
 run-spec =

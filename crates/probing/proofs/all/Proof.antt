@@ -4,7 +4,6 @@ use mathlib.Core.List.{List}
 use mathlib.Core.Path.{_≡_, refl, _∙_}
 use Prim.Native.Nat.{ℕ, _-_}
 use native.Mathlib.Omega.{arith}
-use borrow.Author.Needs.{needs}
 use lib.ListN.{length}
 use Rattle.probing.proofs.all.Statement.{statement}
 use Rattle.probing.proofs.all.Tie as tie
@@ -29,7 +28,7 @@ add-k : tie.Need-add-k Inv-loop μ-loop
 add-k c = omega (arith, c .before .loop-test .taken)
 
 turn-requires : tie.Need-turn-requires Inv-loop μ-loop
-turn-requires c κs = search needs
+turn-requires c κs = tt
 
 loop-less : tie.Need-loop-less Inv-loop μ-loop
 loop-less c = omega (arith, c .before .before .before .before .before .before .before .before .before .before .before .before .before .before .before .before .before .loop-test .taken)
@@ -38,7 +37,7 @@ loop-again : tie.Need-loop-again Inv-loop μ-loop
 loop-again c = let f = c .before .before .before .before .before .before .before .before .before .before .before .before .before .before .before .before .before .before .loop .inv in let h = c .before .before .before .before .before .before .before .before .before .before .turn .kept in record { memory = h .1 .1 .0 ∙ f .memory; area = h .1 .1 .1 .0 ∙ f .area; samples = h .1 .1 .1 .1 .0 ∙ f .samples; output = h .1 .1 .1 .1 .1 .0 ∙ f .output; text = h .1 .1 .1 .1 .1 .1 .0 ∙ f .text }
 
 flush-requires : tie.Need-flush-requires Inv-loop μ-loop
-flush-requires c κs = search needs
+flush-requires c κs = tt
 
 same-length : tie.Need-same-length Inv-loop μ-loop
 same-length c = c .before .before .before .loop .inv .memory
@@ -56,7 +55,7 @@ same-length-5 : tie.Need-same-length-5 Inv-loop μ-loop
 same-length-5 c = c .before .before .before .loop .inv .text
 
 returns : tie.Need-returns Inv-loop μ-loop
-returns c = search needs
+returns c = tt
 
 pub all-spec : {M : Type 1} → statement M
 all-spec =

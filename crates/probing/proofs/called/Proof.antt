@@ -10,13 +10,13 @@ called-spec =
     tie.close
     (tie.spec
     -- fill-requires
-    (λ c κs. search needs)
+    (λ c κs. tt)
     -- fill-requires-2
-    (λ c κs. search needs)
+    (λ c κs. tt)
     -- fill-requires-3
-    (λ c κs. search needs)
+    (λ c κs. tt)
     -- call-requires
-    (λ c κs. search needs)
+    (λ c κs. tt)
     -- same-length
     (λ c. c .before .before .before .before .before .before .call .kept .1 .0 ∙ c .before .before .before .before .before .before .before .before .before .before .before .before .before .before .before .before .before .before .before .before .fill .kept .1 .1 .0)
     -- same-length-2
@@ -24,4 +24,4 @@ called-spec =
     -- same-length-3
     (λ c. search needs)
     -- returns
-    (λ c. search needs))
+    (λ c. tt))

@@ -11,17 +11,17 @@ on-stores-spec =
     tie.close
     (tie.spec
     -- cut-requires
-    (λ c κs. search needs)
+    (λ c κs. tt)
     -- same-length
     (λ c. search needs)
     -- returns
-    (λ c. search needs)
+    (λ c. tt)
     -- cut-requires-2
-    (λ c κs. search needs)
+    (λ c κs. tt)
     -- same-length-2
     (λ c. search needs)
     -- returns-2
-    (λ c. search needs)
+    (λ c. tt)
     -- slice-relend-prefix-on-wires
     (λ c. search needs)
     -- slice-aggregate-on-wires
@@ -31,7 +31,7 @@ on-stores-spec =
     -- slice-aggregate-on-wires-2
     (λ c. sym (length-take-le _ _ (c .before .before .if2 .left)))
     -- on-wires-requires
-    (λ c κs. search needs)
+    (λ c κs. tt)
     -- same-length-3
     (λ c. search needs)
     -- same-length-4
@@ -43,4 +43,4 @@ on-stores-spec =
     -- same-length-7
     (λ c. search needs)
     -- returns-3
-    (λ c. search needs))
+    (λ c. tt))

@@ -1,7 +1,6 @@
 -- `record::latch_missing` meets its contract: the latch counts where it is needed.
 -- Assumes nothing.
 use Rattle.record.specs.Latches.{latchMissing}
-use borrow.Author.Needs.{needs}
 use Rattle.record.proofs.latch_missing.Statement.{statement}
 use Rattle.record.proofs.latch_missing.Tie as tie
 
@@ -11,7 +10,7 @@ latch-missing-spec =
     tie.close
     (tie.spec
     -- latch-needed-requires
-    (λ c κs. search needs)
+    (λ c κs. tt)
     -- returns
     (λ c. rw (← c .before .latch-needed .ensures, c .if1 .taken))
     -- returns-2

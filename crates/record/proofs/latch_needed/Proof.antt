@@ -11,7 +11,7 @@ latch-needed-spec =
     -- enum-told
     (λ c. search needs)
     -- kind-needs-requires
-    (λ c κs. search needs)
+    (λ c κs. tt)
     -- enum-told-2
     (λ c. search needs)
     -- returns

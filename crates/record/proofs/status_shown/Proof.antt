@@ -10,12 +10,12 @@ status-shown-spec =
     tie.close
     (tie.spec
     -- without-latch-requires
-    (λ c κs. search needs)
+    (λ c κs. tt)
     -- add-result
     (λ c. search needs)
     -- returns
     (λ c. rw (c .without-latch .ensures, c .before .if1 .taken))
     -- without-latch-requires-2
-    (λ c κs. search needs)
+    (λ c κs. tt)
     -- returns-2
     (λ c. rw (c .without-latch2 .ensures, c .before .if1 .left, add-zero)))

@@ -2,7 +2,6 @@
 -- Assumes nothing.
 use Prim.Native.Nat.{_-_}
 use native.Mathlib.Omega.{arith}
-use borrow.Author.Needs.{needs}
 use lib.ListN.{length}
 use Rattle.running.specs.Laws.{Running, run-start, run-turn, run-end}
 use Rattle.running.proofs.feed.Statement.{statement}
@@ -16,7 +15,7 @@ abbrev μ-loop : tie.MeasureT-loop
 μ-loop d memory₀ area₀ samples output₀ s latch q₀ i₀ memory area output q i = length samples - i
 
 setting-requires : tie.Need-setting-requires Inv-loop μ-loop
-setting-requires c κs = search needs
+setting-requires c κs = tt
 
 loop-holds : tie.Need-loop-holds Inv-loop μ-loop
 loop-holds c = run-start _ _ _ _ _ _

@@ -15,13 +15,13 @@ bits-above-spec =
     -- returns
     (λ c. none-above (c .before .args .w) (c .before .args .below .0) _ (c .before .fits .v .fits) (below-many (c .before .args .w) (c .before .args .below .0) (c .if1 .taken)))
     -- wires-of-requires
-    (λ c κs. search needs)
+    (λ c κs. tt)
     -- mul-shift
     (λ c. rw (c .wires-of .ensures) (omega (arith, below-few (c .before .before .args .w) _ (c .before .if1 .left))))
     -- returns-2
     (λ c. none-above (c .before .before .before .args .w) (c .before .before .before .args .below .0) _ (c .before .before .before .fits .v .fits) (rw (c .before .wires-of .ensures) at (c .if2 .taken)))
     -- values-requires
-    (λ c κs. search needs)
+    (λ c κs. tt)
     -- cast-n
     (λ c. search needs)
     -- cast-result

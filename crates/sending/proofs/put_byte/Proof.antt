@@ -13,7 +13,7 @@ put-byte-spec =
     -- bytes-to-clocks-requires
     (λ c κs. search needs)
     -- put-number-requires
-    (λ c κs. search needs)
+    (λ c κs. tt)
     -- same-length
     (λ c. search needs)
     -- returns

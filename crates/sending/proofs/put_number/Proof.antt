@@ -3,14 +3,13 @@
 use native.Mathlib.Omega.{arith}
 use Rattle.pages.specs.Laws.{Left, none-put, put-one, all-put}
 use Rattle.pages.specs.Page.{page}
-use Rattle.wires.specs.Bits.{spread}
+use Rattle.wires.specs.Bits.{spelled}
 use Rattle.sending.specs.Laws.{spread-next, spread-none}
-use borrow.Author.Needs.{needs}
 use Rattle.sending.proofs.put_number.Statement.{statement}
 use Rattle.sending.proofs.put_number.Tie as tie
 
 abbrev Inv-loop : tie.InvT-loop
-Inv-loop samples₀ at w v to₀ below₀ samples to below = Left (spread w below₀ v) (page to₀ samples₀) (spread w below v) (page to samples)
+Inv-loop samples₀ at w v to₀ below₀ samples to below = Left (spelled w below₀ v) (page to₀ samples₀) (spelled w below v) (page to samples)
 
 abbrev μ-loop : tie.MeasureT-loop
 μ-loop samples₀ at w v to₀ below₀ samples to below = below
@@ -22,10 +21,10 @@ sub-below : tie.Need-sub-below Inv-loop μ-loop
 sub-below c = omega arith
 
 bits-above-requires : tie.Need-bits-above-requires Inv-loop μ-loop
-bits-above-requires c κs = search needs
+bits-above-requires c κs = tt
 
 put-requires : tie.Need-put-requires Inv-loop μ-loop
-put-requires c κs = search needs
+put-requires c κs = tt
 
 loop-less : tie.Need-loop-less Inv-loop μ-loop
 loop-less c = omega (arith, c .before .before .before .before .before .loop-test .taken)

@@ -6,7 +6,6 @@ use Rattle.pages.specs.Page.{page}
 use Rattle.paper.specs.Building.{silent}
 use Rattle.units.specs.Units.{clocks}
 use Rattle.sending.specs.Laws.{silent-next, silent-none}
-use borrow.Author.Needs.{needs}
 use Rattle.sending.proofs.put_silent.Statement.{statement}
 use Rattle.sending.proofs.put_silent.Tie as tie
 
@@ -23,7 +22,7 @@ sub-left : tie.Need-sub-left Inv-loop μ-loop
 sub-left c = omega arith
 
 put-requires : tie.Need-put-requires Inv-loop μ-loop
-put-requires c κs = search needs
+put-requires c κs = tt
 
 loop-less : tie.Need-loop-less Inv-loop μ-loop
 loop-less c = omega (arith, c .before .before .before .before .loop-test .taken)

@@ -24,7 +24,7 @@ sub-left : tie.Need-sub-left Inv-loop μ-loop
 sub-left c = omega arith
 
 put-silent-requires : tie.Need-put-silent-requires Inv-loop μ-loop
-put-silent-requires c κs = search needs
+put-silent-requires c κs = tt
 
 loop-less : tie.Need-loop-less Inv-loop μ-loop
 loop-less c = omega (arith, c .before .before .before .before .loop-test .taken)

@@ -7,7 +7,6 @@ use Rattle.pages.specs.Laws.{Left, none-put, put-some, all-put}
 use Rattle.pages.specs.Page.{page}
 use Rattle.paper.specs.Building.{spreadAll}
 use Rattle.sending.specs.Laws.{written-next, written-none}
-use borrow.Author.Needs.{needs}
 use Rattle.sending.proofs.put_written.Statement.{statement}
 use Rattle.sending.proofs.put_written.Tie as tie
 
@@ -24,7 +23,7 @@ shared-slice-read-b : tie.Need-shared-slice-read-b Inv-loop μ-loop
 shared-slice-read-b c = omega arith
 
 put-byte-requires : tie.Need-put-byte-requires Inv-loop μ-loop
-put-byte-requires c κs = search needs
+put-byte-requires c κs = tt
 
 add-i : tie.Need-add-i Inv-loop μ-loop
 add-i c = omega (arith, c .before .before .before .before .before .loop-test .taken)

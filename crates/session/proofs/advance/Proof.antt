@@ -1,35 +1,36 @@
--- `session::advance` meets its contract: the chip's parts of memory and area lie within what is lent.
+-- `session::advance` meets its contract: the tests are the definition's in their order; the chip's parts of memory and area lie within what is lent, and come back before the rest of it.
 -- Assumes nothing.
-use mathlib.Core.Path.{sym}
+use mathlib.Core.Path.{sym, ap}
 use lib.Seq.{length-take-le}
+use borrow.Author.Tests.{lt-ltb, le-ltb}
+use Rattle.session.specs.Session.{goneOn, turnOf}
 use borrow.Author.Needs.{needs}
 use Rattle.session.proofs.advance.Statement.{statement}
 use Rattle.session.proofs.advance.Tie as tie
 
 pub advance-spec : {M : Type 1} → statement M
+unfolding turnOf
 advance-spec =
     tie.close
     (tie.spec
-    -- entry-at-requires
-    (λ c κs. search needs)
-    -- memory-for-requires
-    (λ c κs. search needs)
-    -- area-for-requires
-    (λ c κs. search needs)
+    -- found-at-requires
+    (λ c κs. tt)
+    -- bytes-for-requires
+    (λ c κs. tt)
     -- is-good-requires
-    (λ c κs. search needs)
+    (λ c κs. tt)
     -- idle-requires
-    (λ c κs. search needs)
+    (λ c κs. tt)
     -- returns
-    (λ c. search needs)
+    (λ c. rw (c .idle .ensures, ← c .before .before .before .before .before .before .found-at .ensures, ← c .before .before .is-good .ensures, c .before .if1 .taken))
     -- idle-requires-2
-    (λ c κs. search needs)
+    (λ c κs. tt)
     -- returns-2
-    (λ c. search needs)
+    (λ c. rw (c .idle2 .ensures, ← c .before .before .before .before .before .before .before .found-at .ensures, ← c .before .before .before .is-good .ensures, c .before .before .if1 .left, ← c .before .before .before .before .before .before .bytes-for .ensures, lt-ltb _ _ (c .before .if2 .taken)))
     -- idle-requires-3
-    (λ c κs. search needs)
+    (λ c κs. tt)
     -- returns-3
-    (λ c. search needs)
+    (λ c. rw (c .idle3 .ensures, ← c .before .before .before .before .before .before .before .before .found-at .ensures, ← c .before .before .before .before .is-good .ensures, c .before .before .before .if1 .left, ← c .before .before .before .before .before .before .before .bytes-for .ensures, le-ltb _ _ (c .before .before .if2 .left), lt-ltb _ _ (c .before .if3 .taken)))
     -- slice-relend-prefix-play-at
     (λ c. search needs)
     -- slice-aggregate-play-at
@@ -39,7 +40,7 @@ advance-spec =
     -- slice-aggregate-play-at-2
     (λ c. sym (length-take-le _ _ (c .before .before .if3 .left)))
     -- play-at-requires
-    (λ c κs. search needs)
+    (λ c κs. tt)
     -- same-length
     (λ c. search needs)
     -- same-length-2
@@ -47,4 +48,4 @@ advance-spec =
     -- same-length-3
     (λ c. search needs)
     -- returns-4
-    (λ c. search needs))
+    (λ c. rw (← c .before .before .before .before .before .before .before .before .before .before .before .before .before .before .before .before .before .before .found-at .ensures, ← c .before .before .before .before .before .before .before .before .before .before .before .before .before .before .is-good .ensures, c .before .before .before .before .before .before .before .before .before .before .before .before .before .if1 .left, ← c .before .before .before .before .before .before .before .before .before .before .before .before .before .before .before .before .before .bytes-for .ensures, le-ltb _ _ (c .before .before .before .before .before .before .before .before .before .before .before .before .if2 .left), le-ltb _ _ (c .before .before .before .before .before .before .before .before .before .before .before .if3 .left)) (ap (goneOn (c .before .before .before .before .before .before .before .before .before .before .before .before .before .before .before .before .before .before .found-at .result) _ _) (c .before .before .before .before .before .before .before .play-at .ensures))))

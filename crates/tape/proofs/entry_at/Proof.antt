@@ -12,13 +12,13 @@ entry-at-spec =
     tie.close
     (tie.spec
     -- nothing-requires
-    (λ c κs. search needs)
+    (λ c κs. tt)
     -- returns
     (λ c. rw (le-leb _ _ (c .before .if1 .taken), c .nothing .ensures))
     -- sub-if2
     (λ c. search needs)
     -- nothing-requires-2
-    (λ c κs. search needs)
+    (λ c κs. tt)
     -- returns-2
     (λ c. rw (lt-leb _ _ (c .before .before .if1 .left), lt-ltb _ _ (c .before .if2 .taken), c .nothing2 .ensures))
     -- word-at-requires
@@ -32,7 +32,7 @@ entry-at-spec =
     -- sub-if3-2
     (λ c. search needs)
     -- nothing-requires-3
-    (λ c κs. search needs)
+    (λ c κs. tt)
     -- returns-3
     (λ c. rw (lt-leb _ _ (c .before .before .before .before .before .if1 .left), le-ltb _ _ (c .before .before .before .before .if2 .left), ← c .before .before .before .word-at .ensures, lt-ltb _ _ (c .before .if3 .taken), c .nothing3 .ensures))
     -- add-from
@@ -46,6 +46,6 @@ entry-at-spec =
     -- part-entry-for-end
     (λ c. search needs)
     -- entry-for-requires
-    (λ c κs. search needs)
+    (λ c κs. tt)
     -- returns-4
     (λ c. rw (lt-leb _ _ (c .before .before .before .before .before .before .if1 .left), le-ltb _ _ (c .before .before .before .before .before .if2 .left), ← c .before .before .before .before .word-at .ensures, le-ltb _ _ (c .before .before .if3 .left), ← c .before .before .before .word-at2 .ensures, c .entry-for .ensures)))

@@ -28,6 +28,6 @@ entry-for-spec =
     -- shared-slice-read-fresh-entry-2
     (λ c. search needs)
     -- fresh-entry-requires
-    (λ c κs. search needs)
+    (λ c κs. tt)
     -- returns-7
     (λ c. rw (ne-eqb _ _ (c .before .before .before .before .before .before .if1 .left), ne-eqb _ _ (c .before .before .before .before .before .if3 .left), c .before .before .before .before .if5 .left, c .before .before .before .if6 .left, c .fresh-entry .ensures)))

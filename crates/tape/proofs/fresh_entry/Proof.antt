@@ -2,7 +2,6 @@
 -- Assumes nothing.
 use borrow.Author.Tests.{lt-ltb, le-ltb}
 use Rattle.tape.specs.Tape.{freshEntry}
-use borrow.Author.Needs.{needs}
 use Rattle.tape.proofs.fresh_entry.Statement.{statement}
 use Rattle.tape.proofs.fresh_entry.Tie as tie
 
@@ -12,7 +11,7 @@ fresh-entry-spec =
     tie.close
     (tie.spec
     -- is-known-requires
-    (λ c κs. search needs)
+    (λ c κs. tt)
     -- returns
     (λ c. rw (← c .before .is-known .ensures, c .if1 .taken))
     -- returns-2

@@ -11,11 +11,11 @@ fresh-for-spec =
     -- enum-told
     (λ c. search needs)
     -- fresh-m-requires
-    (λ c κs. search needs)
+    (λ c κs. tt)
     -- enum-told-2
     (λ c. search needs)
     -- fresh-p-requires
-    (λ c κs. search needs)
+    (λ c κs. tt)
     -- returns
     (λ c. rw (c .before .enum-told .given .1, c .fresh-m .ensures))
     -- returns-2

@@ -12,31 +12,31 @@ play-spec =
     -- enum-told
     (λ c. search needs)
     -- unclocked-requires
-    (λ c κs. search needs)
+    (λ c κs. tt)
     -- enum-told-2
     (λ c. search needs)
     -- unclocked-requires-2
-    (λ c κs. search needs)
+    (λ c κs. tt)
     -- enum-told-3
     (λ c. search needs)
     -- transact-requires
-    (λ c κs. search needs)
+    (λ c κs. tt)
     -- enum-told-4
     (λ c. search needs)
     -- power-cycle-requires
-    (λ c κs. search needs)
+    (λ c κs. tt)
     -- enum-known-e
     (λ c. search needs)
     -- wipe-requires
-    (λ c κs. search needs)
+    (λ c κs. tt)
     -- wipe-requires-2
-    (λ c κs. search needs)
+    (λ c κs. tt)
     -- of-requires
-    (λ c κs. search needs)
+    (λ c κs. tt)
     -- fresh-for-requires
-    (λ c κs. search needs)
+    (λ c κs. tt)
     -- unclocked-requires-3
-    (λ c κs. search needs)
+    (λ c κs. tt)
     -- returns
     (λ c. rw (c .before .enum-told .given .1, c .unclocked .ensures))
     -- returns-2

@@ -12,7 +12,7 @@ play-at-spec =
     tie.close
     (tie.spec
     -- entry-at-requires
-    (λ c κs. search needs)
+    (λ c κs. tt)
     -- sub-play
     (λ c. rw (c .before .before .entry-at .ensures) (found-first _ _))
     -- part-play-start
@@ -20,7 +20,7 @@ play-at-spec =
     -- part-play-end
     (λ c. rw (c .before .before .entry-at .ensures) (found-last _ _))
     -- play-requires
-    (λ c κs. search needs)
+    (λ c κs. tt)
     -- same-length
     (λ c. search needs)
     -- same-length-2

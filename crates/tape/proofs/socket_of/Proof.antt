@@ -1,6 +1,5 @@
 -- `tape::socket_of` meets its contract: field by field.
 -- Assumes nothing.
-use borrow.Author.Needs.{needs}
 use Rattle.tape.proofs.socket_of.Statement.{statement}
 use Rattle.tape.proofs.socket_of.Tie as tie
 
@@ -9,10 +8,10 @@ socket-of-spec =
     tie.close
     (tie.spec
     -- of-requires
-    (λ c κs. search needs)
-    -- area-requires
-    (λ c κs. search needs)
+    (λ c κs. tt)
     -- memory-of-requires
-    (λ c κs. search needs)
+    (λ c κs. tt)
+    -- area-requires
+    (λ c κs. tt)
     -- returns
-    (λ c. rw (c .memory-of .ensures, c .before .area .ensures, c .before .before .of .ensures)))
+    (λ c. rw (c .area .ensures, c .before .memory-of .ensures, c .before .before .of .ensures)))

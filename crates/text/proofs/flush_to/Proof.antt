@@ -2,7 +2,6 @@
 -- Assumes nothing.
 use mathlib.Core.Path.{sym}
 use lib.Seq.{length-take-le}
-use borrow.Author.Needs.{needs}
 use Rattle.text.proofs.flush_to.Statement.{statement}
 use Rattle.text.proofs.flush_to.Tie as tie
 
@@ -13,8 +12,8 @@ flush-to-spec =
     -- slice-aggregate-write-all
     (λ c. sym (length-take-le _ _ (c .before .if1 .taken)))
     -- write-all-requires
-    (λ c κs. search needs)
+    (λ c κs. tt)
     -- returns
-    (λ c. search needs)
+    (λ c. tt)
     -- returns-2
-    (λ c. search needs))
+    (λ c. tt))

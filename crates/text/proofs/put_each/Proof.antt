@@ -3,7 +3,6 @@
 use mathlib.Core.Path.{_≡_, refl, _∙_}
 use Prim.Native.Nat.{_-_}
 use native.Mathlib.Omega.{arith}
-use borrow.Author.Needs.{needs}
 use lib.ListN.{length}
 use Rattle.text.proofs.put_each.Statement.{statement}
 use Rattle.text.proofs.put_each.Tie as tie
@@ -24,7 +23,7 @@ cast-put-hex : tie.Need-cast-put-hex Inv-loop μ-loop
 cast-put-hex c = omega (arith, c .shared-slice-known2 .given (c .before .before .before .loop .i))
 
 put-hex-requires : tie.Need-put-hex-requires Inv-loop μ-loop
-put-hex-requires c κs = search needs
+put-hex-requires c κs = tt
 
 add-i : tie.Need-add-i Inv-loop μ-loop
 add-i c = omega (arith, c .before .before .before .before .before .loop-test .taken)
@@ -39,7 +38,7 @@ same-length : tie.Need-same-length Inv-loop μ-loop
 same-length c = c .before .loop .inv
 
 returns : tie.Need-returns Inv-loop μ-loop
-returns c = search needs
+returns c = tt
 
 pub put-each-spec : {M : Type 1} → statement M
 put-each-spec =

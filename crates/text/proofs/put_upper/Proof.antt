@@ -2,13 +2,12 @@
 -- Assumes nothing.
 use Prim.Native.Nat.{_-_}
 use native.Mathlib.Omega.{arith}
-use borrow.Author.Needs.{needs}
 use mathlib.Core.List.{map}
 use lib.ListN.{length, drop, drop-of-length-le}
 use Rattle.pages.specs.Page.{page}
 use Rattle.pages.specs.Laws.{Left, none-put, put-one, all-put, drop-one}
 use Rattle.text.specs.Upper.{upperOf}
-use mathlib.Core.Path.{sym, ap, _∙_}
+use mathlib.Core.Path.{ap}
 use Rattle.text.proofs.put_upper.Statement.{statement}
 use Rattle.text.proofs.put_upper.Tie as tie
 
@@ -25,10 +24,10 @@ shared-slice-read-b : tie.Need-shared-slice-read-b Inv-loop μ-loop
 shared-slice-read-b c = omega arith
 
 upper-requires : tie.Need-upper-requires Inv-loop μ-loop
-upper-requires c κs = search needs
+upper-requires c κs = tt
 
 put-requires : tie.Need-put-requires Inv-loop μ-loop
-put-requires c κs = search needs
+put-requires c κs = tt
 
 add-i : tie.Need-add-i Inv-loop μ-loop
 add-i c = omega (arith, c .before .before .before .before .before .before .loop-test .taken)

@@ -4,7 +4,6 @@ use mathlib.Core.List.{[]}
 use mathlib.Core.Path.{refl}
 use Prim.Native.Nat.{_-_}
 use native.Mathlib.Omega.{arith}
-use borrow.Author.Needs.{needs}
 use lib.ListN.{length, drop, drop-of-length-le}
 use Rattle.pages.specs.Laws.{Left, none-put, put-one, put-some, all-put}
 use Rattle.pages.specs.Page.{page, putsOf}
@@ -44,7 +43,7 @@ unfolding putsOf
 loop-again c = put-some (c .before .before .before .before .loop .inv) [] (word-bar _ _ _ (c .before .before .before .loop-test .taken) (c .before .if1 .taken) (c .if2 .left)) refl refl
 
 put-requires : tie.Need-put-requires Inv-loop μ-loop
-put-requires c κs = search needs
+put-requires c κs = tt
 
 loop-less-2 : tie.Need-loop-less-2 Inv-loop μ-loop
 loop-less-2 c = omega (arith, c .before .before .before .before .before .before .before .loop-test .taken)

@@ -2,7 +2,6 @@
 -- Assumes nothing.
 use native.Mathlib.Omega.{arith}
 use Rattle.units.specs.Laws.{clocks-few}
-use borrow.Author.Needs.{needs}
 use Rattle.units.proofs.bytes_to_clocks.Statement.{statement}
 use Rattle.units.proofs.bytes_to_clocks.Tie as tie
 
@@ -11,7 +10,7 @@ bytes-to-clocks-spec =
     tie.close
     (tie.spec
     -- per-byte-requires
-    (λ c κs. search needs)
+    (λ c κs. tt)
     -- mul-t4
     (λ c. rw (c .before .per-byte .ensures) (omega (arith, clocks-few (c .before .before .args .w) (c .before .before .args .b .0) (c .before .before .pre))))
     -- returns

@@ -1,7 +1,6 @@
 -- `units::unfinished` meets its contract: the rate is not 0.
 -- Assumes nothing.
 use Rattle.units.specs.Laws.{perByte-pos}
-use borrow.Author.Needs.{needs}
 use Rattle.units.proofs.unfinished.Statement.{statement}
 use Rattle.units.proofs.unfinished.Tie as tie
 
@@ -10,7 +9,7 @@ unfinished-spec =
     tie.close
     (tie.spec
     -- per-byte-requires
-    (λ c κs. search needs)
+    (λ c κs. tt)
     -- rem-t4
     (λ c. rw (c .before .per-byte .ensures) (perByte-pos (c .before .before .args .w)))
     -- returns

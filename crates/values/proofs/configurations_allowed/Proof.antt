@@ -2,7 +2,6 @@
 -- Assumes nothing.
 use borrow.Author.Tests.{lt-ltb, le-ltb, ne-eqb, not-true, not-false}
 use Rattle.values.specs.Values.{configurationsAllowed}
-use borrow.Author.Needs.{needs}
 use Rattle.values.proofs.configurations_allowed.Statement.{statement}
 use Rattle.values.proofs.configurations_allowed.Tie as tie
 
@@ -16,10 +15,10 @@ configurations-allowed-spec =
     -- returns-2
     (λ c. rw (c .before .if1 .left, le-ltb (c .before .before .args .cr2) 16 (c .if2 .taken)))
     -- cr3-allowed-requires
-    (λ c κs. search needs)
+    (λ c κs. tt)
     -- returns-3
     (λ c. rw (c .before .before .before .if1 .left, lt-ltb (c .before .before .before .before .args .cr2) 16 (c .before .before .if2 .left), ← c .before .cr3-allowed .ensures, not-true (c .before .cr3-allowed .result) (c .if3 .taken)))
     -- cr4-allowed-requires
-    (λ c κs. search needs)
+    (λ c κs. tt)
     -- returns-4
     (λ c. rw (c .before .before .before .before .if1 .left, lt-ltb (c .before .before .before .before .before .args .cr2) 16 (c .before .before .before .if2 .left), ← c .before .before .cr3-allowed .ensures, not-false (c .before .before .cr3-allowed .result) (c .before .if3 .left)) (c .cr4-allowed .ensures)))

@@ -3,7 +3,6 @@
 use borrow.Author.Tests.{ne-eqb}
 use Prim.Native.Nat.{_/_, _%_}
 use Rattle.values.specs.Values.{cr3Allowed}
-use borrow.Author.Needs.{needs}
 use Rattle.values.proofs.cr3_allowed.Statement.{statement}
 use Rattle.values.proofs.cr3_allowed.Tie as tie
 
@@ -15,6 +14,6 @@ cr3-allowed-spec =
     -- returns
     (λ c. rw (ne-eqb (c .before .args .v / 8 % 2) 0 (c .if1 .taken)))
     -- wrap-codes-requires
-    (λ c κs. search needs)
+    (λ c κs. tt)
     -- returns-2
     (λ c. rw (c .before .if1 .left, c .wrap-codes .ensures)))

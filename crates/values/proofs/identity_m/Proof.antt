@@ -1,7 +1,6 @@
 -- `values::identity_m` meets its contract: the bytes past the fourth.
 -- Assumes nothing.
 use Rattle.values.specs.States.{identityM}
-use borrow.Author.Needs.{needs}
 use Rattle.values.proofs.identity_m.Statement.{statement}
 use Rattle.values.proofs.identity_m.Tie as tie
 
@@ -11,6 +10,6 @@ identity-m-spec =
     tie.close
     (tie.spec
     -- all-zero-requires
-    (λ c κs. search needs)
+    (λ c κs. tt)
     -- returns
     (λ c. c .all-zero .ensures))

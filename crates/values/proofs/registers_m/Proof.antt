@@ -3,7 +3,6 @@
 use borrow.Author.Tests.{ne-eqb, not-true, not-false}
 use Prim.Native.Nat.{_/_, _%_}
 use Rattle.values.specs.States.{registersM}
-use borrow.Author.Needs.{needs}
 use Rattle.values.proofs.registers_m.Statement.{statement}
 use Rattle.values.proofs.registers_m.Tie as tie
 
@@ -13,13 +12,13 @@ registers-m-spec =
     tie.close
     (tie.spec
     -- status-allowed-requires
-    (λ c κs. search needs)
+    (λ c κs. tt)
     -- returns
     (λ c. rw (← c .before .status-allowed .ensures, not-true (c .before .status-allowed .result) (c .if1 .taken)))
     -- returns-2
     (λ c. rw (← c .before .before .before .status-allowed .ensures, not-false (c .before .before .before .status-allowed .result) (c .before .before .if1 .left), ne-eqb (c .before .before .before .before .args .r .status / 2 % 2) 0 (c .if2 .taken)))
     -- configurations-allowed-requires
-    (λ c κs. search needs)
+    (λ c κs. tt)
     -- returns-3
     (λ c. rw (← c .before .before .before .before .before .status-allowed .ensures, not-false (c .before .before .before .before .before .status-allowed .result) (c .before .before .before .before .if1 .left), c .before .before .if2 .left, ← c .before .configurations-allowed .ensures, not-true (c .before .configurations-allowed .result) (c .if3 .taken)))
     -- returns-4

@@ -13,7 +13,7 @@ reserved-spec =
     -- array-read-status-allowed
     (λ c. search needs)
     -- status-allowed-requires
-    (λ c κs. search needs)
+    (λ c κs. tt)
     -- enum-told-2
     (λ c. search needs)
     -- enum-told-3
@@ -35,7 +35,7 @@ reserved-spec =
     -- array-read-configurations-allowed-4
     (λ c. search needs)
     -- configurations-allowed-requires
-    (λ c κs. search needs)
+    (λ c κs. tt)
     -- enum-told-8
     (λ c. search needs)
     -- enum-told-9
@@ -47,7 +47,7 @@ reserved-spec =
     -- array-read-mode-register-allowed
     (λ c. search needs)
     -- mode-register-allowed-requires
-    (λ c κs. search needs)
+    (λ c κs. tt)
     -- enum-told-12
     (λ c. search needs)
     -- returns

@@ -12,15 +12,15 @@ valid-spec =
     tie.close
     (tie.spec
     -- of-requires
-    (λ c κs. search needs)
+    (λ c κs. tt)
     -- enum-told
     (λ c. search needs)
     -- valid-m-requires
-    (λ c κs. search needs)
+    (λ c κs. tt)
     -- enum-told-2
     (λ c. search needs)
     -- valid-p-requires
-    (λ c κs. search needs)
+    (λ c κs. tt)
     -- returns
     (λ c. rw (sym (c .before .before .before .of .ensures) ∙ c .before .enum-told .given .1) (c .valid-m .ensures))
     -- returns-2

@@ -1,7 +1,6 @@
 -- `values::volatile_m` meets its contract: the toggle decides, and then the mode.
 -- Assumes nothing.
 use Rattle.values.specs.States.{volatileM}
-use borrow.Author.Needs.{needs}
 use Rattle.values.proofs.volatile_m.Statement.{statement}
 use Rattle.values.proofs.volatile_m.Tie as tie
 
@@ -13,6 +12,6 @@ volatile-m-spec =
     -- returns
     (λ c. rw (c .if1 .taken))
     -- mode-allowed-requires
-    (λ c κs. search needs)
+    (λ c κs. tt)
     -- returns-2
     (λ c. rw (c .before .if1 .left) (c .mode-allowed .ensures)))

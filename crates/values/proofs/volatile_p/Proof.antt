@@ -1,7 +1,6 @@
 -- `values::volatile_p` meets its contract: latch and sleep decide, and then the mode.
 -- Assumes nothing.
 use Rattle.values.specs.States.{volatileP}
-use borrow.Author.Needs.{needs}
 use Rattle.values.proofs.volatile_p.Statement.{statement}
 use Rattle.values.proofs.volatile_p.Tie as tie
 
@@ -15,6 +14,6 @@ volatile-p-spec =
     -- returns-2
     (λ c. rw (c .before .if1 .left, c .if2 .taken))
     -- mode-allowed-requires
-    (λ c κs. search needs)
+    (λ c κs. tt)
     -- returns-3
     (λ c. rw (c .before .before .if1 .left, c .before .if2 .left) (c .mode-allowed .ensures)))

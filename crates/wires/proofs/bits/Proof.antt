@@ -2,7 +2,6 @@
 -- Assumes nothing.
 use lib.Pow.{pow-pos}
 use Rattle.units.specs.Units.{wiresOf}
-use borrow.Author.Needs.{needs}
 use Rattle.wires.proofs.bits.Statement.{statement}
 use Rattle.wires.proofs.bits.Tie as tie
 
@@ -11,7 +10,7 @@ bits-spec =
     tie.close
     (tie.spec
     -- values-requires
-    (λ c κs. search needs)
+    (λ c κs. tt)
     -- rem-result
     (λ c. rw (c .values .ensures) (pow-pos (wiresOf (c .before .args .w))))
     -- returns

@@ -1,6 +1,5 @@
 -- `wires::is_driven` meets its contract: the comparison is the definition's, with what the two callees give.
 -- Assumes nothing.
-use borrow.Author.Needs.{needs}
 use Rattle.wires.proofs.is_driven.Statement.{statement}
 use Rattle.wires.proofs.is_driven.Tie as tie
 
@@ -9,8 +8,8 @@ is-driven-spec =
     tie.close
     (tie.spec
     -- seen-requires
-    (λ c κs. search needs)
+    (λ c κs. tt)
     -- level-requires
-    (λ c κs. search needs)
+    (λ c κs. tt)
     -- returns
     (λ c. rw (c .level .ensures, c .before .seen .ensures)))

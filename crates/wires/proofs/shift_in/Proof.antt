@@ -13,11 +13,11 @@ shift-in-spec =
     tie.close
     (tie.spec
     -- values-requires
-    (λ c κs. search needs)
+    (λ c κs. tt)
     -- cast-v
     (λ c. search needs)
     -- bits-requires
-    (λ c κs. search needs)
+    (λ c κs. tt)
     -- cast-b
     (λ c. search needs)
     -- mul-result

@@ -17,29 +17,29 @@ body-of-spec =
     -- enum-known-k
     (λ c. search needs)
     -- size-of-requires
-    (λ c κs. search needs)
+    (λ c κs. tt)
     -- enum-told-3
     (λ c. search needs)
     -- register-at-requires
-    (λ c κs. search needs)
+    (λ c κs. tt)
     -- mapped-body-requires
-    (λ c κs. search needs)
+    (λ c κs. tt)
     -- enum-told-4
     (λ c. search needs)
     -- size-of-requires-2
-    (λ c κs. search needs)
+    (λ c κs. tt)
     -- enum-told-5
     (λ c. search needs)
     -- size-of-requires-3
-    (λ c κs. search needs)
+    (λ c κs. tt)
     -- enum-known-k-2
     (λ c. search needs)
     -- size-of-requires-4
-    (λ c κs. search needs)
+    (λ c κs. tt)
     -- enum-told-6
     (λ c. search needs)
     -- size-of-requires-5
-    (λ c κs. search needs)
+    (λ c κs. tt)
     -- enum-told-7
     (λ c. search needs)
     -- enum-told-8

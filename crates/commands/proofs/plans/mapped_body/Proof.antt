@@ -11,7 +11,7 @@ mapped-body-spec =
     -- enum-known-m
     (λ c. search needs)
     -- size-of-requires
-    (λ c κs. search needs)
+    (λ c κs. tt)
     -- enum-told
     (λ c. search needs)
     -- returns

@@ -12,7 +12,7 @@ wait-of-spec =
     tie.close
     (tie.spec
     -- wait-row-requires
-    (λ c κs. search needs)
+    (λ c κs. tt)
     -- cast-t7
     (λ c. search needs)
     -- returns
@@ -20,7 +20,7 @@ wait-of-spec =
     -- mul-t9
     (λ c. omega (arith, c .before .wait-row .ensures, row-le (c .before .before .args .k)))
     -- column-requires
-    (λ c κs. search needs)
+    (λ c κs. tt)
     -- add-t11
     (λ c. omega (arith, c .before .before .wait-row .ensures, row-le (c .before .before .before .args .k), c .column .ensures, column-lt (c .before .before .before .args .w)))
     -- mul-t12

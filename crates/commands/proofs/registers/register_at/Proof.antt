@@ -13,7 +13,7 @@ register-at-spec =
     -- enum-told
     (λ c. search needs)
     -- register-of-m-requires
-    (λ c κs. search needs)
+    (λ c κs. tt)
     -- enum-told-2
     (λ c. search needs)
     -- returns

@@ -4,7 +4,6 @@ use mathlib.Core.Path.{ap}
 use native.Mathlib.Omega.{arith}
 use Rattle.units.specs.Units.{bytes}
 use Rattle.commands.specs.RegisterLaws.{sized}
-use borrow.Author.Needs.{needs}
 use Rattle.commands.proofs.registers.size_of.Statement.{statement}
 use Rattle.commands.proofs.registers.size_of.Tie as tie
 
@@ -13,7 +12,7 @@ size-of-spec =
     tie.close
     (tie.spec
     -- number-of-requires
-    (λ c κs. search needs)
+    (λ c κs. tt)
     -- mul-t4
     (λ c. omega (arith, c .number-of .ensures, sized (c .before .args .r) .inside))
     -- array-read-t7

@@ -1,6 +1,5 @@
 -- `record::Device::burst_done` meets its contract: the latch is what the rule says.
 -- Assumes nothing.
-use borrow.Author.Needs.{needs}
 use Rattle.record.proofs.Device.burst_done.Statement.{statement}
 use Rattle.record.proofs.Device.burst_done.Tie as tie
 
@@ -9,8 +8,8 @@ burst-done-spec =
     tie.close
     (tie.spec
     -- after-burst-requires
-    (λ c κs. search needs)
+    (λ c κs. tt)
     -- latched-requires
-    (λ c κs. search needs)
+    (λ c κs. tt)
     -- returns
     (λ c. rw (c .latched .ensures, c .before .after-burst .ensures)))

@@ -13,43 +13,43 @@ controlled-spec =
     -- enum-told-2
     (λ c. search needs)
     -- latched-requires
-    (λ c κs. search needs)
+    (λ c κs. tt)
     -- enum-told-3
     (λ c. search needs)
     -- latched-requires-2
-    (λ c κs. search needs)
+    (λ c κs. tt)
     -- enum-told-4
     (λ c. search needs)
     -- in-mode-requires
-    (λ c κs. search needs)
+    (λ c κs. tt)
     -- enum-told-5
     (λ c. search needs)
     -- in-mode-requires-2
-    (λ c κs. search needs)
+    (λ c κs. tt)
     -- enum-told-6
     (λ c. search needs)
     -- in-mode-requires-3
-    (λ c κs. search needs)
+    (λ c κs. tt)
     -- enum-told-7
     (λ c. search needs)
     -- asleep-requires
-    (λ c κs. search needs)
+    (λ c κs. tt)
     -- enum-told-8
     (λ c. search needs)
     -- asleep-requires-2
-    (λ c κs. search needs)
+    (λ c κs. tt)
     -- enum-told-9
     (λ c. search needs)
     -- armed-requires
-    (λ c κs. search needs)
+    (λ c κs. tt)
     -- enum-told-10
     (λ c. search needs)
     -- reset-requires
-    (λ c κs. search needs)
+    (λ c κs. tt)
     -- enum-told-11
     (λ c. search needs)
     -- toggled-requires
-    (λ c κs. search needs)
+    (λ c κs. tt)
     -- returns
     (λ c. rw (c .enum-told .given .1))
     -- returns-2

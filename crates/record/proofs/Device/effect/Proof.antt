@@ -13,7 +13,7 @@ effect-spec =
     -- enum-known-k
     (λ c. search needs)
     -- controlled-requires
-    (λ c κs. search needs)
+    (λ c κs. tt)
     -- enum-told-2
     (λ c. search needs)
     -- enum-told-3
@@ -25,23 +25,23 @@ effect-spec =
     -- enum-known-k-2
     (λ c. search needs)
     -- register-done-requires
-    (λ c κs. search needs)
+    (λ c κs. tt)
     -- enum-told-6
     (λ c. search needs)
     -- written-requires
-    (λ c κs. search needs)
+    (λ c κs. tt)
     -- enum-told-7
     (λ c. search needs)
     -- enum-told-8
     (λ c. search needs)
     -- burst-done-requires
-    (λ c κs. search needs)
+    (λ c κs. tt)
     -- enum-told-9
     (λ c. search needs)
     -- enum-told-10
     (λ c. search needs)
     -- burst-done-requires-2
-    (λ c κs. search needs)
+    (λ c κs. tt)
     -- returns
     (λ c. rw (c .enum-told .given .1))
     -- returns-2

@@ -1,6 +1,5 @@
 -- `record::Device::powered` meets its contract: the three callees, one after the other.
 -- Assumes nothing.
-use borrow.Author.Needs.{needs}
 use Rattle.record.proofs.Device.powered.Statement.{statement}
 use Rattle.record.proofs.Device.powered.Tie as tie
 
@@ -9,10 +8,10 @@ powered-spec =
     tie.close
     (tie.spec
     -- reset-requires
-    (λ c κs. search needs)
+    (λ c κs. tt)
     -- asleep-requires
-    (λ c κs. search needs)
+    (λ c κs. tt)
     -- armed-requires
-    (λ c κs. search needs)
+    (λ c κs. tt)
     -- returns
     (λ c. rw (c .armed .ensures, c .before .asleep .ensures, c .before .before .reset .ensures)))

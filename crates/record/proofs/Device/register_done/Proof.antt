@@ -1,6 +1,5 @@
 -- `record::Device::register_done` meets its contract: the latch goes by the write mode before the write.
 -- Assumes nothing.
-use borrow.Author.Needs.{needs}
 use Rattle.record.proofs.Device.register_done.Statement.{statement}
 use Rattle.record.proofs.Device.register_done.Tie as tie
 
@@ -9,10 +8,10 @@ register-done-spec =
     tie.close
     (tie.spec
     -- after-register-requires
-    (λ c κs. search needs)
+    (λ c κs. tt)
     -- written-requires
-    (λ c κs. search needs)
+    (λ c κs. tt)
     -- latched-requires
-    (λ c κs. search needs)
+    (λ c κs. tt)
     -- returns
     (λ c. rw (c .latched .ensures, c .before .written .ensures, c .before .before .after-register .ensures)))

@@ -10,7 +10,7 @@ reset-spec =
     tie.close
     (tie.spec
     -- of-requires
-    (λ c κs. search needs)
+    (λ c κs. tt)
     -- enum-told
     (λ c. search needs)
     -- enum-told-2

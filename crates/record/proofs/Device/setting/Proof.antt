@@ -1,6 +1,5 @@
 -- `record::Device::setting` meets its contract: part and wires are what the callees give.
 -- Assumes nothing.
-use borrow.Author.Needs.{needs}
 use Rattle.record.proofs.Device.setting.Statement.{statement}
 use Rattle.record.proofs.Device.setting.Tie as tie
 
@@ -9,8 +8,8 @@ setting-spec =
     tie.close
     (tie.spec
     -- of-requires
-    (λ c κs. search needs)
+    (λ c κs. tt)
     -- mode-wires-requires
-    (λ c κs. search needs)
+    (λ c κs. tt)
     -- returns
     (λ c. rw (c .mode-wires .ensures, c .before .of .ensures)))

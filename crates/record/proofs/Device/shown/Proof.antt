@@ -11,7 +11,7 @@ shown-spec =
     -- enum-told
     (λ c. search needs)
     -- status-shown-requires
-    (λ c κs. search needs)
+    (λ c κs. tt)
     -- enum-told-2
     (λ c. search needs)
     -- enum-told-3

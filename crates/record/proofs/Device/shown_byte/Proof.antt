@@ -1,6 +1,5 @@
 -- `record::Device::shown_byte` meets its contract: the byte of what is shown.
 -- Assumes nothing.
-use borrow.Author.Needs.{needs}
 use Rattle.record.proofs.Device.shown_byte.Statement.{statement}
 use Rattle.record.proofs.Device.shown_byte.Tie as tie
 
@@ -9,8 +8,8 @@ shown-byte-spec =
     tie.close
     (tie.spec
     -- shown-requires
-    (λ c κs. search needs)
+    (λ c κs. tt)
     -- byte-at-requires
-    (λ c κs. search needs)
+    (λ c κs. tt)
     -- returns
     (λ c. rw (c .byte-at .ensures, c .before .shown .ensures)))

@@ -13,7 +13,7 @@ written-spec =
     -- array-read-without-latch
     (λ c. search needs)
     -- without-latch-requires
-    (λ c κs. search needs)
+    (λ c κs. tt)
     -- enum-told-2
     (λ c. search needs)
     -- array-read-self

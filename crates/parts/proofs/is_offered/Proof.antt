@@ -1,10 +1,9 @@
--- `cabi::is_offered` meets its contract: both ends of the range.
+-- `parts::is_offered` meets its contract: both ends of the range.
 -- Assumes nothing.
-use borrow.Author.Needs.{needs}
-use Rattle.cabi.specs.Calls.{offered}
 use borrow.Author.Tests.{le-leb, lt-leb}
-use Rattle.cabi.proofs.is_offered.Statement.{statement}
-use Rattle.cabi.proofs.is_offered.Tie as tie
+use Rattle.parts.specs.Parts.{offered}
+use Rattle.parts.proofs.is_offered.Statement.{statement}
+use Rattle.parts.proofs.is_offered.Tie as tie
 
 pub is-offered-spec : {M : Type 1} → statement M
 unfolding offered
@@ -12,10 +11,10 @@ is-offered-spec =
     tie.close
     (tie.spec
     -- least-requires
-    (λ c κs. search needs)
+    (λ c κs. tt)
     -- returns
     (λ c. rw (← c .before .least .ensures, lt-leb _ _ (c .if1 .taken)))
     -- most-requires
-    (λ c κs. search needs)
+    (λ c κs. tt)
     -- returns-2
     (λ c. rw (← c .before .before .least .ensures, le-leb _ _ (c .before .if1 .left), c .most .ensures)))

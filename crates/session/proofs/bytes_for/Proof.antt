@@ -1,0 +1,32 @@
+-- `session::bytes_for` meets its contract: an arm for each record.
+-- Assumes nothing.
+use borrow.Author.Needs.{needs}
+use Rattle.session.proofs.bytes_for.Statement.{statement}
+use Rattle.session.proofs.bytes_for.Tie as tie
+
+pub bytes-for-spec : {M : Type 1} → statement M
+bytes-for-spec =
+    tie.close
+    (tie.spec
+    -- enum-told
+    (λ c. search needs)
+    -- enum-told-2
+    (λ c. search needs)
+    -- enum-told-3
+    (λ c. search needs)
+    -- enum-told-4
+    (λ c. search needs)
+    -- enum-known-e
+    (λ c. search needs)
+    -- socket-of-requires
+    (λ c κs. tt)
+    -- returns
+    (λ c. rw (c .enum-told .given .1))
+    -- returns-2
+    (λ c. rw (c .enum-told2 .given .1))
+    -- returns-3
+    (λ c. rw (c .enum-told3 .given .1))
+    -- returns-4
+    (λ c. rw (c .enum-told4 .given .1))
+    -- returns-5
+    (λ c. rw (c .before .before .e .given .1, c .socket-of .ensures)))
