@@ -99,7 +99,7 @@ fn mapped_byte(d: Device, m: Mapped, i: Bytes) -> u8
 }
 
 // Byte `i` of what a command reads.
-pub fn byte_read(d: Device, k: Kind, address: u32, memory: &[u8], area: &[u8], i: Bytes) -> u8
+fn byte_read(d: Device, k: Kind, address: u32, memory: &[u8], area: &[u8], i: Bytes) -> u8
     requires { ⌜ (d .n ≤ 24) × (i .0 ≤ 65535) ⌝ }
     ensures { λ r. ⌜ r ≡ byteRead d k address (lends (now (memory .entry)) (now (area .entry))) i ⌝ }
 {
@@ -122,7 +122,7 @@ pub fn byte_read(d: Device, k: Kind, address: u32, memory: &[u8], area: &[u8], i
 }
 
 // The output byte of data clock `t` of a read.
-pub fn level_at(d: Device, k: Kind, address: u32, memory: &[u8], area: &[u8], t: Clocks) -> u8
+fn level_at(d: Device, k: Kind, address: u32, memory: &[u8], area: &[u8], t: Clocks) -> u8
     requires { ⌜ (d .n ≤ 24) × (t .0 ≤ 65535) ⌝ }
     ensures { λ r. ⌜ r ≡ levelAt d k address (lends (now (memory .entry)) (now (area .entry))) t ⌝ }
 {

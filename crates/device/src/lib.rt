@@ -13,7 +13,7 @@ use record::Answer;
 use record::Device;
 
 // Whether part and n are in range, and what is lent has the sizes that they give.
-pub fn is_sized(d: Device, memory: &[u8], area: &[u8]) -> bool
+fn is_sized(d: Device, memory: &[u8], area: &[u8]) -> bool
     ensures { λ r. ⌜ r ≡ sizedFor d (lends (now (memory .entry)) (now (area .entry))) ⌝ }
 {
     let number = d.part;
@@ -34,7 +34,7 @@ pub fn is_sized(d: Device, memory: &[u8], area: &[u8]) -> bool
 }
 
 // Whether the clocks are few enough, and the output has room for what they drive.
-pub fn has_room(samples: &[u8], output: &[u8]) -> bool
+fn has_room(samples: &[u8], output: &[u8]) -> bool
     ensures { λ r. ⌜ r ≡ roomFor (now (samples .entry)) (now (output .entry)) ⌝ }
 {
     if 65535 < samples.len() {
@@ -44,7 +44,7 @@ pub fn has_room(samples: &[u8], output: &[u8]) -> bool
 }
 
 // Whether every sample is a level of four wires.
-pub fn is_sampled(samples: &[u8]) -> bool
+fn is_sampled(samples: &[u8]) -> bool
     ensures { λ r. ⌜ r ≡ sampled (now (samples .entry)) ⌝ }
 {
     let mut i = 0;

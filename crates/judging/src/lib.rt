@@ -25,7 +25,7 @@ pub struct Outcome {
     pub device: Device,
 }
 
-// A write without a whole byte, or a fixed one that is not full.
+// 4 for want of data: a burst has brought no byte yet, a register write not all of its own.
 fn is_short(b: Body, w: Wires, t: Clocks) -> bool
     ensures { λ r. ⌜ r ≡ shortData b w t ⌝ }
 {
@@ -83,7 +83,7 @@ fn is_reset(k: Kind) -> bool
     }
 }
 
-// A reset without 66 just before it.
+// 12: the chip is to reset and is not armed.
 fn is_unarmed(armed: bool, k: Kind) -> bool
     ensures { λ r. ⌜ r ≡ unarmed armed k ⌝ }
 {
@@ -93,7 +93,7 @@ fn is_unarmed(armed: bool, k: Kind) -> bool
     false
 }
 
-// A register value that is not allowed.
+// 10: the register cannot have what is written.
 fn is_reserved(part: Part, k: Kind, value: [u8; 8]) -> bool
     ensures { λ r. ⌜ r ≡ reservedFor part k value ⌝ }
 {

@@ -86,7 +86,7 @@ pub struct Row {
 
 // Every opcode has its place here: the rows first, in the papers' order, and then the ranges that
 // neither part has.
-pub fn row_of(opcode: u8) -> Row
+fn row_of(opcode: u8) -> Row
     ensures { λ r. ⌜ r ≡ rowOf opcode ⌝ }
 {
     match opcode {
@@ -345,7 +345,7 @@ pub fn row_of(opcode: u8) -> Row
 }
 
 // Whether a bus mode is one of these.
-pub fn in_modes(m: Modes, w: Wires) -> bool
+fn in_modes(m: Modes, w: Wires) -> bool
     ensures { λ r. ⌜ r ≡ inModes m w ⌝ }
 {
     match m {

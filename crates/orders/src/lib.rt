@@ -104,7 +104,7 @@ pub fn is_overlong_wait(o: Order, k: Kind) -> bool
     0x0F < o.cr2
 }
 
-// 4: no byte where there is data, or a fixed write that is not full.
+// 4: a register write wants all of its bytes, every other command with data one.
 pub fn is_few(b: Body, wanted: Bytes, written: Bytes) -> bool
     ensures { λ r. ⌜ r ≡ tooFew b wanted written ⌝ }
 {
@@ -117,7 +117,7 @@ pub fn is_few(b: Body, wanted: Bytes, written: Bytes) -> bool
     }
 }
 
-// 11: more than the size, or anything at all where there is no data.
+// 11: a register has a size, and a command without data has none to give or take.
 pub fn is_many(b: Body, wanted: Bytes, written: Bytes) -> bool
     ensures { λ r. ⌜ r ≡ tooMany b wanted written ⌝ }
 {

@@ -20,7 +20,7 @@ use Rattle.record.specs.Answers.{answerNumber}
 use Rattle.record.specs.Devices.{settingOf}
 use Rattle.record.specs.Fresh.{freshM, freshP}
 use Rattle.record.specs.Latches.{latchMissing}
-use Rattle.record.specs.Changes.{latchTo, sleepTo, modeTo, modeRegisterTo, statusTo, configurationsTo}
+use Rattle.record.specs.Changes.{armTo, latchTo, sleepTo, modeTo, modeRegisterTo, statusTo, configurationsTo}
 use Rattle.values.specs.Values.{statusAllowed, cr3Allowed, cr4Allowed, configurationsAllowed, modeRegisterAllowed}
 use Rattle.values.specs.States.{modeAllowed, zeros, registersM, registersP, volatileM, volatileP, identityM, identityP, validOf}
 use Rattle.places.specs.Places.{readSpan, writeSpan, placeIn}
@@ -189,6 +189,8 @@ further =
     ∷ same (answersIn (inWriteMode 0) (stores ∷ byte One 0x06 ∷ stores ∷ stores ∷ [])) (8 ∷ 0 ∷ 0 ∷ 8 ∷ [])
     ∷ same (answersIn (inWriteMode 1) (stores ∷ stores ∷ [])) (0 ∷ 0 ∷ [])
     ∷ same (answersIn (inWriteMode 2) (byte One 0x06 ∷ stores ∷ stores ∷ byte One 0x04 ∷ stores ∷ [])) (0 ∷ 0 ∷ 0 ∷ 0 ∷ 8 ∷ [])
+    -- a refusal: the output is as it was, and the chip is still armed
+    ∷ (let r = transactOf (armTo true m) (onM (blank 1024)) (0x10 ∷ []) (7 ∷ 8 ∷ []) in answers r 2 (blank 5) && (same (r .output) (7 ∷ 8 ∷ []) && r .device .volatile .armed))
     ∷ []
 
 pub further-hold : T (all further)

@@ -1,4 +1,4 @@
--- The samples parted by phase: where a part ends, and what feeding it leaves.
+-- The samples parted by phase: where a part ends, and what feeding it leaves. Document 01, "Forms by place": the data phase is the middle of the samples.
 use Prim.Native.Nat.{ℕ, _+_, _-_, _≤_}
 use mathlib.Core.Path.{_≡_}
 use mathlib.Core.Bool.{cond}

@@ -17,7 +17,7 @@ use units::Clocks;
 use units::Wires;
 
 // Whether a command wakes a chip that sleeps.
-pub fn is_waking(k: Kind) -> bool
+fn is_waking(k: Kind) -> bool
     ensures { λ r. ⌜ r ≡ wakes k ⌝ }
 {
     match k {
@@ -87,7 +87,7 @@ pub fn refused_at(s: Setting, k: Kind, address: u32) -> bool
 }
 
 // Whether the transaction is decided with its command.
-pub fn is_stopped(s: Setting, k: Kind) -> bool
+fn is_stopped(s: Setting, k: Kind) -> bool
     ensures { λ r. ⌜ r ≡ stopped s k ⌝ }
 {
     if asleep_for(s, k) {

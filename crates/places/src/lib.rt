@@ -85,7 +85,7 @@ fn wrap_in_force(n: u8, cr3: u8) -> Bytes
 }
 
 // The group inside which memory reads come round.
-pub fn read_span(s: Setting) -> Bytes
+fn read_span(s: Setting) -> Bytes
     requires { ⌜ s .n ≤ 24 ⌝ }
     ensures { λ r. ⌜ r ≡ readSpan s ⌝ }
 {
@@ -97,7 +97,7 @@ pub fn read_span(s: Setting) -> Bytes
 }
 
 // The group inside which memory writes come round.
-pub fn write_span(s: Setting) -> Bytes
+fn write_span(s: Setting) -> Bytes
     requires { ⌜ s .n ≤ 24 ⌝ }
     ensures { λ r. ⌜ r ≡ writeSpan s ⌝ }
 {

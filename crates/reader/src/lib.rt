@@ -1,5 +1,5 @@
-// A reader over a lent tape: it holds the tape and its place. The work is done by `tape::entry_at`, which takes a
-// plain slice and a place.
+// A place on a tape that is lent, tape and all, and what is found there. The work is `tape::entry_at`'s, which takes a plain slice
+// and a number.
 ghost use mathlib.Core.Path.{_≡_};
 ghost use Rattle.tape.specs.Tape.{foundOf};
 use tape::Found;

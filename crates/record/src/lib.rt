@@ -93,7 +93,7 @@ pub struct Registers {
 }
 
 // What does not outlive a power cycle: the bus mode (1, 2 or 4), the write latch, the arming of a reset, sleep,
-// and part P's toggle. A reset puts all of it back but sleep.
+// and part P's toggle. A reset puts mode, latch and toggle back; the arming falls with the transaction that carried it.
 pub struct Volatile {
     pub mode: u8,
     pub latch: bool,

@@ -2,7 +2,7 @@
 //
 // A clock carries as many bits as there are wires in use, so a byte takes eight, four or two clocks.
 // Whoever has clocks and wants bytes, or the other way round, names the wires: the two conversions below
-// are the only functions that take one type and give the other.
+// are the only places where a number changes its unit.
 ghost use mathlib.Core.Path.{_≡_};
 ghost use Prim.Native.Nat.{_≤_};
 ghost use Rattle.units.specs.Units.{perByte, clocksOf, wholeOf, unfinishedOf};

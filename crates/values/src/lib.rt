@@ -15,14 +15,14 @@ use record::Registers;
 use record::Volatile;
 
 // Status: bits 7, 6 and 0.
-pub fn status_allowed(v: u8) -> bool
+fn status_allowed(v: u8) -> bool
     ensures { λ r. ⌜ r ≡ statusAllowed v ⌝ }
 {
     v < 64 && v % 2 == 0
 }
 
 // Configuration 3: bit 3, and the codes that name no group.
-pub fn cr3_allowed(part: Part, v: u8) -> bool
+fn cr3_allowed(part: Part, v: u8) -> bool
     ensures { λ r. ⌜ r ≡ cr3Allowed part v ⌝ }
 {
     if v / 8 % 2 != 0 {
@@ -32,14 +32,14 @@ pub fn cr3_allowed(part: Part, v: u8) -> bool
 }
 
 // Configuration 4: bits 7 to 3, bit 2, and write mode 3.
-pub fn cr4_allowed(v: u8) -> bool
+fn cr4_allowed(v: u8) -> bool
     ensures { λ r. ⌜ r ≡ cr4Allowed v ⌝ }
 {
     v / 4 == 1 && v % 4 < 3
 }
 
 // All four configurations.
-pub fn configurations_allowed(part: Part, cr1: u8, cr2: u8, cr3: u8, cr4: u8) -> bool
+fn configurations_allowed(part: Part, cr1: u8, cr2: u8, cr3: u8, cr4: u8) -> bool
     ensures { λ r. ⌜ r ≡ configurationsAllowed part cr1 cr2 cr3 cr4 ⌝ }
 {
     if cr1 != 0 {
@@ -55,7 +55,7 @@ pub fn configurations_allowed(part: Part, cr1: u8, cr2: u8, cr3: u8, cr4: u8) ->
 }
 
 // Part P's mode register: bit 7, bits 4 to 2, and code 3 of the drive strength.
-pub fn mode_register_allowed(v: u8) -> bool
+fn mode_register_allowed(v: u8) -> bool
     ensures { λ r. ⌜ r ≡ modeRegisterAllowed v ⌝ }
 {
     if 128 <= v {
