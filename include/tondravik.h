@@ -4,7 +4,8 @@
  *
  * WHAT IS PROVED. Each function here is proved to leave exactly what its definition says, in its answer and in every
  * buffer that is lent to it, for any numbers and any bytes; it ends, reads and writes nothing outside the buffers, and
- * keeps no state between calls. The definitions stand in crates/cabi/specs and crates/chips/specs.
+ * keeps no state between calls. The definitions stand in crates/cabi/specs and crates/chips/specs. The compiler's back
+ * end is tested, not proved.
  *
  * WHAT C MUST ENSURE, since no proof can look beyond the call:
  *   - Each pointer comes with the length behind it, in elements. For the whole call that many elements are there: to
@@ -63,7 +64,7 @@ enum {
     TONDRAVIK_AT_CONFIGURATION_1 = 4, /* 2, 3 and 4 follow, one byte each */
     TONDRAVIK_AT_MODE_REGISTER = 8,
     TONDRAVIK_AT_BUS_MODE = 9, /* 1, 2 or 4 wires */
-    TONDRAVIK_AT_LATCH = 10,   /* the next four are flags, 0 or 1 */
+    TONDRAVIK_AT_LATCH = 10,   /* this and the next three are flags, 0 or 1 */
     TONDRAVIK_AT_ARMED = 11,
     TONDRAVIK_AT_ASLEEP = 12,
     TONDRAVIK_AT_TOGGLE = 13,
@@ -91,7 +92,7 @@ enum {
 
 /* A fresh chip of part M: mode 1, latch down, disarmed, awake, registers and serial number as new. `device` is its
  * four bytes of device identity, `unique` its eight bytes of unique number.
- * 3: the chip is not TONDRAVIK_CHIP bytes. 1: n is not 10 to 21, or device or unique has another length. The chip is
+ * First 3: the chip is not TONDRAVIK_CHIP bytes. Then 1: n is not 10 to 21, or device or unique has another length. The chip is
  * then as it was. Memory and area are C's to clear: a new chip's are all 0. */
 uint8_t tondravik_fresh_m(uint8_t n, const uint8_t *device, size_t device_length, const uint8_t *unique,
                           size_t unique_length, uint8_t *chip, size_t chip_length);
@@ -103,27 +104,30 @@ uint8_t tondravik_fresh_p(uint8_t n, const uint8_t *device, size_t device_length
  * Each clock gives one byte of output: low four bits levels, high four bits which wires the device drives, and 00h
  * where it drives none. Output past the clocks is kept.
  * Before all others, 3: the chip is not TONDRAVIK_CHIP bytes, or one of its flags is neither 0 nor 1; the counts are 0
- * where there are five words for them. Then 1: there are not TONDRAVIK_COUNTS words for the counts. Then the papers'
- * answers in their order; the counts are those of the answer. */
+ * where there are five words for them. Then 1: there are not TONDRAVIK_COUNTS words for the counts. Then the
+ * answers in the order of docs/MODEL.md, "A transaction"; the counts are those of the answer. */
 uint8_t tondravik_transact(uint8_t *chip, size_t chip_length, uint8_t *memory, size_t memory_length, uint8_t *area,
                            size_t area_length, const uint8_t *samples, size_t samples_length, uint8_t *output,
                            size_t output_length, size_t *counts, size_t counts_length);
 
-/* A power cycle. 0, or 3 for the chip as above, then 1 and 3 as the papers have them. */
+/* A power cycle. 0, or first 3 for the chip as above, then 1 (part, n, or the length of memory or area), then 3 (a value
+ * that no chip has). */
 uint8_t tondravik_power_cycle(uint8_t *chip, size_t chip_length, uint8_t *memory, size_t memory_length,
                               const uint8_t *area, size_t area_length);
 
 /* The samples of a command. `mode` is the bus mode, 1, 2 or 4. `cr2` is configuration 2, used for opcode 4B only.
  * `wanted` is the number of bytes to read; a write has its bytes in `written`. How many samples there are goes to the
  * one word `clocks`, 0 where the command is refused. Samples past them are kept.
- * Before all others, 1: clocks_length is not 1, and nothing is written. Then in order 5, 7, 10, 4, 11, 1. */
+ * Before all others, 1: clocks_length is not 1, and nothing is written. Then in order 5, 7, 10, 4, 11, 1
+ * (docs/MODEL.md, "The host half"). */
 uint8_t tondravik_build(uint8_t part, uint8_t opcode, uint8_t mode, uint32_t address, uint8_t cr2, size_t wanted,
                         const uint8_t *written, size_t written_length, uint8_t *samples, size_t samples_length,
                         size_t *clocks, size_t clocks_length);
 
 /* The bytes of what the device drove on 1, 2 or 4 wires; 00h is skipped, and an unfinished last byte is dropped. How
  * many bytes there are goes to the one word `number`, 0 where it is refused. Room past them is kept.
- * Before all others, 1: number_length is not 1, and nothing is written. Then in order 5, 2, 1. */
+ * Before all others, 1: number_length is not 1, and nothing is written. Then in order 5, 2, 1
+ * (docs/MODEL.md, "The host half"). */
 uint8_t tondravik_gather(uint8_t wires, const uint8_t *driven, size_t driven_length, uint8_t *bytes,
                          size_t bytes_length, size_t *number, size_t number_length);
 

@@ -1,4 +1,4 @@
--- DEMAND 3: write episodes that touch no place in common may come in any order. Every order leaves the same registers, array and area and gives each episode the
+-- DEMAND 3: write episodes that touch no place in common may come in any order. Every order leaves the same record, memory and area and gives each episode the
 -- same answers, and each byte holds what its own episode stores. The words of the statement are in Episodes.antt; the theorem is `demand-3`, at the end.
 --
 -- The proof: an episode moves the latch, the arming and memory, and nothing else (`Moving`); what it does to them (`act`) and what it is told (`told`) depend on the

@@ -116,7 +116,7 @@ pub record Ready (c : Chip) : Type 0 where
 
 -- ---- THE PROMISE, for two orders of the same episodes
 pub record AnyOrder (c : Chip) (l₁ l₂ : List (List Call)) : Type 0 where
-  -- the same registers, array and area
+  -- the same record, memory and area
   pub same : runs c l₁ ≡ runs c l₂
   -- in either order each episode gets the answers, counts and outputs that it gets alone
   pub first : allReplies c l₁ ≡ map (replies c) l₁

@@ -32,7 +32,7 @@ pub record Facts : Type 0 where
   pub counts : Counts
   pub taken : Taken
 
--- 4, for want of data: a burst has brought no byte, or a register write not all of its own. Reads never want data.
+-- 4, for want of data: a burst has brought no whole byte, or a register write not all of its own. Reads never want data.
 abbrev pub shortData : Body → Wires → Clocks → Bool
 shortData Nothing w t = false
 shortData (FixedRead b) w t = false
@@ -48,7 +48,7 @@ longRest AnyRead t = false
 longRest (FixedWrite b) t = fewer (clocks 0) t
 longRest AnyWrite t = false
 
--- 12: a reset, and 66 was not just before
+-- 12: a reset, and the chip is not armed
 abbrev resets : Control → Bool
 resets Controls.NoOperation = false
 resets Controls.WriteEnable = false
@@ -79,7 +79,7 @@ resetting Kinds.WriteArea = false
 unfoldable pub unarmed : Bool → Kind → Bool
 unarmed armed k = resetting k && not armed
 
--- 10: the value of a register write
+-- 10: the value of a register write is not allowed
 abbrev pub reservedFor : Part → Kind → List ℕ → Bool
 reservedFor p Kinds.Unknown v = false
 reservedFor p (Kinds.Plain c) v = false
@@ -94,7 +94,7 @@ reservedFor p (Kinds.WriteMemory s) v = false
 reservedFor p Kinds.ReadArea v = false
 reservedFor p Kinds.WriteArea v = false
 
--- 9: no byte of a burst was open
+-- 9: no byte of a burst was unprotected
 abbrev pub shutData : Body → Bool → Bool
 shutData Nothing any = false
 shutData (FixedRead b) any = false
@@ -107,7 +107,7 @@ abbrev pub firstOf : List (Bool × Answer) → Answer
 firstOf [] = Done
 firstOf (r ∷ rs) = cond (r .0) (r .1) (firstOf rs)
 
--- the rows of the table that look at the data
+-- the rows after the address: 4, 11, 12, 8, 10, 9
 abbrev pub dataRows : Setting → Bool → Bool → Facts → List (Bool × Answer)
 dataRows s armed latch f =
     let k = f .kind in

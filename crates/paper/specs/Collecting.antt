@@ -28,7 +28,7 @@ unfoldable pub strange : Wires → List ℕ → Bool
 strange w [] = false
 strange w (x ∷ xs) = (not (eqb x 0) && not (drivenOf w x)) || strange w xs
 
--- the whole bytes that they make; an unfinished last one is dropped
+-- the whole bytes that the driven clocks make; an unfinished last one is dropped
 unfoldable pub collected : Wires → List ℕ → List ℕ
 collected w xs = dataBytes w (seenIn w xs)
 

@@ -1,5 +1,5 @@
--- The plan in force. Document 01, "Answer numbers", the paragraph on counts: once 6, 5 or 7 is decided, every further clock is rest. So a plan that comes to
--- nothing has no address, no wait and no data, and what follows it is rest by itself.
+-- The plan in force. Document 01, "Answer numbers", the paragraph on counts: once 6, 5 or 7 is decided, every further clock is rest. So a
+-- plan that 6 or 5 stops has no address, no wait and no data, one that 7 stops no wait and no data, and what follows is rest by itself.
 use Prim.Native.Nat.{ℕ}
 use mathlib.Core.Bool.{Bool, true, false, cond, not, _&&_, _||_}
 use Rattle.units.specs.declared.Clocks.{Clocks}

@@ -20,11 +20,11 @@ use Rattle.tape.specs.Play.{isGood, socketOf, playedAt}
 use Rattle.session.specs.declared.Session.{Session}
 use Rattle.session.specs.declared.Turn.{Turn}
 
--- the front of a tape and an empty socket
+-- the front of a tape and an empty socket; the record stands for no chip
 abbrev pub started : Session
 started = record { at = 0; chip = false; socket = record { memory = bytes 0; area = bytes 0 }; device = freshP 10 (replicate 8 0) }
 
--- the bytes of the chip that a record is played on: a fresh one's own, or those of the chip in the socket
+-- how many bytes the chip has that a record is played on: a fresh one's own, or those of the chip in the socket
 abbrev pub bytesFor : Entry → Socket → Socket
 bytesFor End now = now
 bytesFor (Bad fault) now = now
@@ -41,7 +41,7 @@ pub record Turned : Type 0 where
 abbrev pub turnedOf : Turn → List ℕ → List ℕ → List ℕ → Turned
 turnedOf t memory area out = record { turn = t; lent = lends memory area; output = out }
 
--- nothing is played: the session and all that is lent are as they were
+-- nothing is played: the session and all that is lent are as they were, and the outcome tells nothing
 abbrev pub idleOf : Session → Entry → Turn
 idleOf s e = record { good = false; entry = e; outcome = unclockedOf Size (s .device); session = s }
 

@@ -1,5 +1,6 @@
 -- THE DEVICE READS WHAT THE HOST BUILT (demand 2). For a driver engineer: ask the host half for a command; if it answers 0, send the samples that it left to any device
--- that is awake, is of that part and in that bus mode, has (for 4B) that configuration 2, and has the address. Then
+-- that is awake and in a valid state, is of that part and in that bus mode, has (for 4B) that configuration 2, and has the address, with memory and area of its size and an output byte for
+-- every clock. Then
 -- - the device takes them for just that opcode, that address and that data, and for a read it drives as many bytes as were asked for (65 no more than its register has);
 -- - it finds nothing wrong with the clocks: the answer is none of 1 to 7 and 11. What is left to decide lies in the device's own state and in the value of a
 --   register write: 8, 9, 10, 12, and a read is answered 0;
