@@ -1,11 +1,13 @@
 //! Seeded requests to the host half: good ones for every command, ones with one
 //! or several faults, a few about the most clocks there may be, and gatherings.
 
+use crate::answer::Answer::{self, Address, Long, Reserved, Short, Size, Unknown};
 use crate::device::MOST_CLOCKS;
 use crate::faults::{bytes_of, clocks_of, OF_BUILD, PAIRS_OF_BUILD};
+use crate::parts::{another, Part, FIRST_FREE_NUMBER, P, PARTS};
 use crate::request::{Call, Request};
 use crate::rng::Rng;
-use crate::table::{look_up, modes, opcodes, Command, Data, Wait, M, P};
+use crate::table::{look_up, Command, Data, Wait};
 use crate::wires::{can_be_driven, clocks_for_bits, clocks_for_bytes, drive};
 
 /// One request in so many is about the most clocks; their buffers are large.
@@ -26,7 +28,7 @@ const HUGE: [u32; 8] = [
 /// A command that the tables have.
 #[derive(Clone, Copy)]
 struct Known {
-    part: u8,
+    part: &'static Part,
     mode: u8,
     opcode: u8,
     command: Command,
@@ -34,25 +36,25 @@ struct Known {
 
 impl Known {
     /// Whether a request for this command can have such a fault.
-    fn can_have(&self, fault: u8) -> bool {
+    fn can_have(&self, fault: Answer) -> bool {
         let data = self.command.data;
         match fault {
-            7 => self.command.address,
-            10 => self.command.wait == Wait::Configuration2,
-            4 => data != Data::None,
-            11 => !matches!(data, Data::ReadRunning | Data::WriteRunning),
+            Address => self.command.address,
+            Reserved => self.command.wait == Wait::Configuration2,
+            Short => data != Data::None,
+            Long => !matches!(data, Data::ReadRunning | Data::WriteRunning),
             _ => true,
         }
     }
 }
 
-/// Every command of both parts in every mode that has it.
+/// Every command of every part in every mode that has it.
 fn all_known() -> Vec<Known> {
     let mut list = Vec::new();
-    for part in [M, P] {
-        for &mode in modes(part) {
-            for opcode in opcodes(part) {
-                list.extend(look_up(part, opcode, mode).map(|command| Known {
+    for part in PARTS {
+        for &mode in part.modes() {
+            for opcode in part.opcodes() {
+                list.extend(part.command(opcode, mode).map(|command| Known {
                     part,
                     mode,
                     opcode,
@@ -119,7 +121,7 @@ impl Asker {
 
     /// One of the commands that can have all these faults. Half the time the kind
     /// of data is drawn first, so that the rare kinds come often enough.
-    fn fitting(&mut self, faults: &[u8]) -> Known {
+    fn fitting(&mut self, faults: &[Answer]) -> Known {
         let mut list: Vec<Known> = self
             .known
             .iter()
@@ -149,18 +151,18 @@ impl Asker {
         let rng = &mut self.rng;
         let mut request = Request {
             call: Call::Build,
-            part_or_wires: known.part,
+            part_or_wires: known.part.number,
             opcode: known.opcode,
             mode: known.mode,
-            configuration2: pick_configuration2(rng, &known, faults.contains(&10)),
-            address: pick_address(rng, &known, faults.contains(&7)),
+            configuration2: pick_configuration2(rng, &known, faults.contains(&Reserved)),
+            address: pick_address(rng, &known, faults.contains(&Address)),
             number: 0,
             room: 0,
             data: Vec::new(),
         };
         put_bytes(rng, &mut request, &known, &faults);
-        request.room = pick_room(rng, &request, &known, faults.contains(&1));
-        if faults.contains(&5) {
+        request.room = pick_room(rng, &request, &known, faults.contains(&Size));
+        if faults.contains(&Unknown) {
             // The opcode stays where there are other faults, so that they are seen.
             make_unknown(rng, &mut request, faults.len() == 1);
         }
@@ -225,7 +227,7 @@ impl Asker {
         let clocks = clocks_of(&command, known.mode, configuration2, bytes) as usize;
         let mut request = Request {
             call: Call::Build,
-            part_or_wires: known.part,
+            part_or_wires: known.part.number,
             opcode: known.opcode,
             mode: known.mode,
             configuration2,
@@ -249,18 +251,22 @@ impl Asker {
 }
 
 /// The faults that a request is to have, none to all that can hold at once.
-fn pick_faults(rng: &mut Rng) -> Vec<u8> {
+fn pick_faults(rng: &mut Rng) -> Vec<Answer> {
     match rng.below(20) {
         0..=7 => Vec::new(),
-        // 11 and 1 have the most ways to come about.
-        8..=12 => vec![rng.pick(&[5, 7, 10, 4, 11, 11, 1, 1])],
+        // Long and Size have the most ways to come about.
+        8..=12 => vec![rng.pick(&[Unknown, Address, Reserved, Short, Long, Long, Size, Size])],
         13..=16 => {
             let (earlier, later) = rng.pick(&PAIRS_OF_BUILD);
             vec![earlier, later]
         }
         _ => {
-            // 11 holds neither with 4 nor with 10.
-            let left_out: &[u8] = if rng.chance(1, 2) { &[11] } else { &[4, 10] };
+            // Long holds neither with Short nor with Reserved.
+            let left_out: &[Answer] = if rng.chance(1, 2) {
+                &[Long]
+            } else {
+                &[Short, Reserved]
+            };
             OF_BUILD
                 .into_iter()
                 .filter(|fault| !left_out.contains(fault) && rng.chance(3, 4))
@@ -305,8 +311,8 @@ fn hundreds(rng: &mut Rng) -> usize {
 
 /// Puts in the number of bytes to read and the data to write: those that the
 /// command looks at, and now and then those that it ignores.
-fn put_bytes(rng: &mut Rng, request: &mut Request, known: &Known, faults: &[u8]) {
-    let (short, long) = (faults.contains(&4), faults.contains(&11));
+fn put_bytes(rng: &mut Rng, request: &mut Request, known: &Known, faults: &[Answer]) {
+    let (short, long) = (faults.contains(&Short), faults.contains(&Long));
     let few = 1 + rng.below(6);
     match known.command.data {
         Data::None if long => {
@@ -323,7 +329,7 @@ fn put_bytes(rng: &mut Rng, request: &mut Request, known: &Known, faults: &[u8])
         Data::None => {}
         Data::ReadFixed(_) | Data::ReadMapped | Data::ReadRunning => {
             request.number = pick_number(rng, known.command.data, short, long);
-            if faults.contains(&1) && known.command.data == Data::ReadRunning && !short {
+            if faults.contains(&Size) && known.command.data == Data::ReadRunning && !short {
                 // Too many clocks, whatever the room.
                 if rng.chance(2, 3) {
                     let wraps = (1u64 << 32) / clocks_for_bits(8, known.command.rest_wires) as u64;
@@ -420,22 +426,24 @@ fn pick_room(rng: &mut Rng, request: &Request, known: &Known, short: bool) -> us
 /// unknown command.
 fn make_unknown(rng: &mut Rng, request: &mut Request, any_opcode: bool) {
     let good = request.clone();
-    let other = if good.part_or_wires == M { P } else { M };
+    let other = another(good.part_or_wires);
+    let free = FIRST_FREE_NUMBER;
     for _ in 0..8 {
         request.part_or_wires = good.part_or_wires;
         request.opcode = good.opcode;
         request.mode = good.mode;
         match rng.below(if any_opcode { 9 } else { 5 }) {
-            0 => request.part_or_wires = rng.pick(&[0, 3, 3, 4, 255]),
+            0 => request.part_or_wires = rng.pick(&[0, free, free, free + 1, 255]),
             1 | 2 => request.mode = rng.pick(&[0, 3, 5, 6, 8, 255]),
             3 => request.mode = rng.pick(&[1, 2, 2, 4]),
-            4 => request.part_or_wires = other,
+            4 => request.part_or_wires = other.number,
             5 => request.opcode = rng.byte(),
-            6 => request.opcode = rng.pick(&opcodes(other)),
+            6 => request.opcode = rng.pick(&other.opcodes()),
             7 => request.opcode ^= 1 << rng.below(8),
             _ => {
-                request.part_or_wires = P;
-                request.opcode = rng.pick(&opcodes(P));
+                // A mode that another part has.
+                request.part_or_wires = P.number;
+                request.opcode = rng.pick(&P.opcodes());
                 request.mode = 2;
             }
         }

@@ -1,8 +1,8 @@
 //! A bundle of tapes run one after the other, with one short line a record that
 //! shows registers, digests and driven samples (the README has the format).
 
+use crate::answer::Class;
 use crate::device::Record;
-use crate::table::M;
 use crate::tape::{run, Entry, Step};
 
 /// Digest of a byte list: order and length both count.
@@ -48,8 +48,10 @@ pub fn registers(record: &Record) -> String {
 /// The number of clocks before the first driven one and the output bytes from
 /// there to the last driven one, or dashes where nothing was driven.
 fn driven(step: &Step, clocks: usize) -> String {
-    let wrote = step.answer == 0 || step.answer >= 4;
-    let output = if wrote { &step.output[..clocks] } else { &[] };
+    let output = match step.answer.class() {
+        Class::Done | Class::Declined => &step.output[..clocks],
+        Class::Refused => &[],
+    };
     let first = output.iter().position(|&byte| byte != 0);
     let last = output.iter().rposition(|&byte| byte != 0);
     match (first, last) {
@@ -60,7 +62,6 @@ fn driven(step: &Step, clocks: usize) -> String {
 
 fn line(step: &Step) -> String {
     let record = &step.chip.record;
-    let [command, address, wait, data, rest] = step.counts;
     let output = match step.entry {
         Entry::Transaction(samples) => {
             format!(
@@ -72,10 +73,11 @@ fn line(step: &Step) -> String {
         Entry::PowerCycle | Entry::Fresh { .. } => String::from("- - -"),
     };
     format!(
-        "{} {} {command} {address} {wait} {data} {rest} {} {} {} {} {} {} {:08X} {:08X} {output}\n",
+        "{} {} {} {} {} {} {} {} {} {:08X} {:08X} {output}\n",
         step.number,
         step.answer,
-        if record.part == M { 'M' } else { 'P' },
+        step.counts,
+        step.chip.part.letter,
         record.n,
         record.mode,
         flags(record),

@@ -1,9 +1,11 @@
 //! The samples of one drawn transaction: a well-formed command for the state that
 //! a record is in, and ways to cut, stretch or spoil it.
 
-use crate::device::{group_of_p, share_bytes, Record};
+use crate::device::Record;
+use crate::parts::{Family, Part};
+use crate::places::{share_bytes, wrap_length};
 use crate::rng::Rng;
-use crate::table::{look_up, mapped_size, Data, Wait, M, P};
+use crate::table::{Data, Wait};
 use crate::wires::{clocks_for_bits, spread};
 
 /// What a composed transaction should be like; what is left open is drawn.
@@ -36,37 +38,35 @@ pub fn push_idle(rng: &mut Rng, samples: &mut Vec<u8>, clocks: usize, noisy: boo
 }
 
 /// Length of the group that a read of this record stays in, or the whole memory.
-pub fn read_group(record: &Record) -> usize {
-    if record.part == P {
-        group_of_p(record)
-    } else if record.configurations[2] & 0x10 != 0 {
-        16 << (record.configurations[2] & 0x07)
-    } else {
-        1 << record.n
-    }
+fn read_group(part: &Part, record: &Record) -> usize {
+    wrap_length(part, record).unwrap_or(1 << record.n)
 }
 
 /// An address for this command, mostly at a place where something happens: the
 /// top, a group's end, a protected border, a place touched before.
-pub fn pick_address(rng: &mut Rng, record: &Record, opcode: u8, hot: &[u32]) -> u32 {
+pub fn pick_address(rng: &mut Rng, part: &Part, record: &Record, opcode: u8, hot: &[u32]) -> u32 {
     let size = 1usize << record.n;
     let drawn = rng.below(24);
-    let address = match (record.part, opcode) {
-        (M, 0x65) => match drawn {
+    let address = match (part.family, opcode) {
+        (Family::Mram, 0x65) => match drawn {
             0 => rng.below(1 << 24),
             1..=3 => rng.pick(&[0x01, 0x01, 0x06, 0x10, 0x20, 0x80, 0x80, 0x81]),
             4 | 5 => rng.pick(&[0x31, 0x33, 0x41, 0x47, 0x2F, 0x3F]),
             6 => rng.pick(&[0x00, 0x02, 0x05, 0x30, 0x40]) | 0x80 << rng.below(17),
-            _ => rng.pick(&[0x00, 0x02, 0x03, 0x04, 0x05, 0x30, 0x40]),
+            _ => rng.pick(part.register_map).0 as usize,
         },
-        (M, 0x4B | 0x42) => match drawn {
-            0 => 256 + rng.below(4),
-            1 => 1 << (8 + rng.below(16)) | rng.below(256),
-            2..=7 => (32 * rng.below(8) + 252 + rng.below(8)) % 256,
-            8..=11 => 250 + rng.below(6),
-            _ => rng.below(256),
-        },
-        (M, _) => {
+        (Family::Mram, 0x4B | 0x42) => {
+            let (area, section) = (part.area_bytes, part.section_bytes);
+            let bits = area.ilog2() as usize;
+            match drawn {
+                0 => area + rng.below(4),
+                1 => 1 << (bits + rng.below(24 - bits)) | rng.below(area),
+                2..=7 => (section * rng.below(area / section) + area - 4 + rng.below(8)) % area,
+                8..=11 => area - 6 + rng.below(6),
+                _ => rng.below(area),
+            }
+        }
+        (Family::Mram, _) => {
             let share = share_bytes(record);
             let border = if record.status & 0x20 == 0 {
                 size - share
@@ -90,13 +90,13 @@ pub fn pick_address(rng: &mut Rng, record: &Record, opcode: u8, hot: &[u32]) -> 
                 12..=15 if !hot.is_empty() => rng.pick(hot) as usize % size,
                 16 => rng.below(4),
                 17..=19 => {
-                    let group = read_group(record);
+                    let group = read_group(part, record);
                     (rng.below(size / group) * group + group - 1 - rng.below(4)) % size
                 }
                 _ => rng.below(size),
             }
         }
-        (_, 0xB5 | 0xB1) => {
+        (Family::Psram, 0xB5 | 0xB1) => {
             let low = if drawn < 3 { 1 + rng.below(15) } else { 0 };
             if drawn < 12 {
                 low
@@ -104,9 +104,9 @@ pub fn pick_address(rng: &mut Rng, record: &Record, opcode: u8, hot: &[u32]) -> 
                 rng.below(1 << 20) << 4 | low
             }
         }
-        (_, 0x9F) => rng.below(1 << 24),
-        _ => {
-            let group = read_group(record);
+        (Family::Psram, 0x9F) => rng.below(1 << 24),
+        (Family::Psram, _) => {
+            let group = read_group(part, record);
             let inside = match drawn {
                 0..=7 => (rng.below(size / group) + 1) * group - 1 - rng.below(4),
                 8..=10 => size - 1 - rng.below(6),
@@ -114,7 +114,7 @@ pub fn pick_address(rng: &mut Rng, record: &Record, opcode: u8, hot: &[u32]) -> 
                 17 => rng.below(4),
                 _ => rng.below(size),
             };
-            // Bits that P has no memory for are ignored; now and then they are set.
+            // Bits without memory are ignored here; now and then they are set.
             if rng.chance(1, 3) {
                 inside | rng.below(1 << (24 - record.n)) << record.n
             } else {
@@ -126,19 +126,20 @@ pub fn pick_address(rng: &mut Rng, record: &Record, opcode: u8, hot: &[u32]) -> 
 }
 
 /// How many bytes a running command moves when nothing else is asked.
-fn pick_bytes(rng: &mut Rng, record: &Record) -> usize {
+fn pick_bytes(rng: &mut Rng, part: &Part, record: &Record) -> usize {
+    let group = read_group(part, record);
     match rng.below(40) {
         0..=21 => 1 + rng.below(4),
         22..=33 => 3 + rng.below(8),
         34..=37 => 9 + rng.below(12),
         // Once round a small group and a little more.
-        _ if read_group(record) <= 64 => read_group(record) + 1 + rng.below(6),
+        _ if group <= 64 => group + 1 + rng.below(6),
         _ => 20 + rng.below(16),
     }
 }
 
 /// Values for a register write, mostly allowed ones.
-fn pick_values(rng: &mut Rng, opcode: u8, plan: &Plan) -> Vec<u8> {
+fn pick_values(rng: &mut Rng, part: &Part, opcode: u8, plan: &Plan) -> Vec<u8> {
     let spoil = plan.bad_value || rng.chance(1, 6);
     match opcode {
         0x01 => {
@@ -152,9 +153,9 @@ fn pick_values(rng: &mut Rng, opcode: u8, plan: &Plan) -> Vec<u8> {
             vec![status]
         }
         0x87 => {
-            let mut values = pick_configurations(rng).to_vec();
+            let mut values = pick_configurations(rng, part).to_vec();
             if spoil {
-                spoil_configurations(rng, &mut values);
+                spoil_configurations(rng, part, &mut values);
             }
             values
         }
@@ -171,22 +172,23 @@ fn pick_values(rng: &mut Rng, opcode: u8, plan: &Plan) -> Vec<u8> {
 }
 
 /// Allowed configurations 1 to 4.
-pub fn pick_configurations(rng: &mut Rng) -> [u8; 4] {
+pub fn pick_configurations(rng: &mut Rng, part: &Part) -> [u8; 4] {
     let wrap = if rng.chance(2, 3) { 0x10 } else { 0 };
     [
         0,
         rng.below(16) as u8,
-        (rng.below(8) << 5) as u8 | wrap | rng.below(5) as u8,
+        (rng.below(8) << 5) as u8 | wrap | rng.below(part.wrap_lengths.len()) as u8,
         0x04 | rng.below(3) as u8,
     ]
 }
 
-pub fn spoil_configurations(rng: &mut Rng, values: &mut [u8]) {
+pub fn spoil_configurations(rng: &mut Rng, part: &Part, values: &mut [u8]) {
+    let codes = part.wrap_lengths.len();
     match rng.below(7) {
         0 => values[0] = 1 << rng.below(8),
         1 => values[1] |= 0x10 << rng.below(4),
         2 => values[2] |= 0x08,
-        3 => values[2] = values[2] & 0xF8 | (5 + rng.below(3)) as u8,
+        3 => values[2] = values[2] & 0xF8 | (codes + rng.below(8 - codes)) as u8,
         4 => values[3] &= !0x04,
         5 => values[3] |= 0x03,
         _ => values[3] |= 0x08 << rng.below(5),
@@ -199,11 +201,18 @@ pub fn pick_mr0(rng: &mut Rng) -> u8 {
 }
 
 /// The samples of one command for the state the record is in.
-pub fn compose(rng: &mut Rng, record: &Record, opcode: u8, hot: &[u32], plan: &Plan) -> Vec<u8> {
+pub fn compose(
+    rng: &mut Rng,
+    part: &Part,
+    record: &Record,
+    opcode: u8,
+    hot: &[u32],
+    plan: &Plan,
+) -> Vec<u8> {
     let noisy = rng.chance(2, 5);
     let mut samples = Vec::new();
     push_byte(rng, &mut samples, opcode, record.mode, noisy);
-    let Some(command) = look_up(record.part, opcode, record.mode) else {
+    let Some(command) = part.command(opcode, record.mode) else {
         // Unknown here: all that follows is rest.
         let clocks = match rng.below(4) {
             0 => 0,
@@ -219,7 +228,7 @@ pub fn compose(rng: &mut Rng, record: &Record, opcode: u8, hot: &[u32], plan: &P
     if command.address {
         address = match plan.address {
             Some(address) => address,
-            None => pick_address(rng, record, opcode, hot),
+            None => pick_address(rng, part, record, opcode, hot),
         };
         for byte in &address.to_be_bytes()[1..] {
             push_byte(rng, &mut samples, *byte, wires, noisy);
@@ -239,7 +248,7 @@ pub fn compose(rng: &mut Rng, record: &Record, opcode: u8, hot: &[u32], plan: &P
     } else {
         match plan.bytes {
             Some(bytes) => bytes,
-            None => pick_bytes(rng, record),
+            None => pick_bytes(rng, part, record),
         }
     };
     // A few clocks of one more byte, now and then.
@@ -253,7 +262,7 @@ pub fn compose(rng: &mut Rng, record: &Record, opcode: u8, hot: &[u32], plan: &P
         Data::ReadFixed(_) | Data::ReadMapped => {
             let size = match command.data {
                 Data::ReadFixed(bytes) => bytes,
-                _ => mapped_size(address).unwrap_or(1),
+                _ => part.register_at(address).map_or(1, |(_, bytes)| bytes),
             };
             let full = size * byte_clocks;
             let clocks = match rng.below(10) {
@@ -268,7 +277,7 @@ pub fn compose(rng: &mut Rng, record: &Record, opcode: u8, hot: &[u32], plan: &P
             push_idle(rng, &mut samples, clocks, noisy);
         }
         Data::WriteFixed(_) => {
-            for byte in pick_values(rng, opcode, plan) {
+            for byte in pick_values(rng, part, opcode, plan) {
                 push_byte(rng, &mut samples, byte, wires, noisy);
             }
             match rng.below(24) {

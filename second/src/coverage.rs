@@ -2,37 +2,47 @@
 
 use std::collections::BTreeMap;
 
+use crate::answer::Answer::{
+    self, Address, Asleep, Done, Latch, Long, Protected, Reserved, Sample, Short, Size, State,
+    Unarmed, Unknown,
+};
+use crate::answer::Class;
 use crate::ask::request_list;
 use crate::compact::take_tape;
 use crate::device::Record;
 use crate::faults::{faults, OF_BUILD, PAIRS_OF_BUILD, PAIRS_OF_GATHER};
 use crate::generate::bundle;
+use crate::parts::PARTS;
 use crate::probe::Call;
 use crate::request;
 use crate::spoil::probe_list;
-use crate::table::{look_up, modes, opcodes, M, P};
 use crate::tape::{run, Entry};
 use crate::wires::{clocks_for_bits, collect};
 
 /// Answers that a tape can show. 1 and 3 need a record or a buffer that the
 /// bench never lends.
-const ON_TAPE: [u8; 11] = [0, 2, 4, 5, 6, 7, 8, 9, 10, 11, 12];
+const ON_TAPE: [Answer; 11] = [
+    Done, Sample, Short, Unknown, Asleep, Address, Latch, Protected, Reserved, Long, Unarmed,
+];
 /// Answers that a transaction can give at all.
-const ON_TRANSACTION: [u8; 13] = [0, 1, 2, 3, 4, 5, 6, 7, 8, 9, 10, 11, 12];
+const ON_TRANSACTION: [Answer; 13] = [
+    Done, Size, Sample, State, Short, Unknown, Asleep, Address, Latch, Protected, Reserved, Long,
+    Unarmed,
+];
 /// Answers that a power cycle can give.
-const ON_POWER_CYCLE: [u8; 3] = [0, 1, 3];
+const ON_POWER_CYCLE: [Answer; 3] = [Done, Size, State];
 /// Answers that a build can give.
-const ON_BUILD: [u8; 7] = [0, 1, 4, 5, 7, 10, 11];
+const ON_BUILD: [Answer; 7] = [Done, Size, Short, Unknown, Address, Reserved, Long];
 /// Answers that a gathering can give.
-const ON_GATHER: [u8; 4] = [0, 1, 2, 5];
+const ON_GATHER: [Answer; 4] = [Done, Size, Sample, Unknown];
 
-/// Part, bus mode and opcode of a command.
+/// Part number, bus mode and opcode of a command.
 type Pair = (u8, u8, u8);
 
 /// What has been sent so far.
 #[derive(Default)]
 struct Tally {
-    answers: BTreeMap<u8, u64>,
+    answers: BTreeMap<Answer, u64>,
     sent: BTreeMap<Pair, u64>,
     done: BTreeMap<Pair, u64>,
 }
@@ -40,9 +50,9 @@ struct Tally {
 impl Tally {
     /// Counts one transaction that a record got. A command counts as sent when
     /// all its bits arrived at a chip that was awake (AB counts asleep too).
-    fn add(&mut self, before: &Record, samples: &[u8], answer: u8) {
+    fn add(&mut self, before: &Record, samples: &[u8], answer: Answer) {
         *self.answers.entry(answer).or_default() += 1;
-        if answer != 0 && answer < 4 {
+        if answer.class() == Class::Refused {
             return;
         }
         let command_clocks = clocks_for_bits(8, before.mode);
@@ -55,13 +65,13 @@ impl Tally {
         }
         let pair = (before.part, before.mode, opcode);
         *self.sent.entry(pair).or_default() += 1;
-        if answer == 0 {
+        if answer == Done {
             *self.done.entry(pair).or_default() += 1;
         }
     }
 
     /// Adds the count of every answer that can be shown; tells whether all were.
-    fn show_answers(&self, title: &str, wanted: &[u8], text: &mut String) -> bool {
+    fn show_answers(&self, title: &str, wanted: &[Answer], text: &mut String) -> bool {
         *text += &format!("{title}\n");
         let mut all = true;
         for answer in wanted {
@@ -81,13 +91,14 @@ impl Tally {
     /// Adds how often every command was built; tells whether none is missing.
     fn show_built(&self, text: &mut String) -> bool {
         let mut all = true;
-        for part in [M, P] {
-            for &mode in modes(part) {
-                let count = |opcode: u8| self.done.get(&(part, mode, opcode)).copied().unwrap_or(0);
-                let table: Vec<u8> = opcodes(part)
-                    .into_iter()
-                    .filter(|&opcode| look_up(part, opcode, mode).is_some())
-                    .collect();
+        for part in PARTS {
+            for &mode in part.modes() {
+                let count = |opcode: u8| {
+                    let pair = (part.number, mode, opcode);
+                    self.done.get(&pair).copied().unwrap_or(0)
+                };
+                let mut table = part.opcodes();
+                table.retain(|&opcode| part.command(opcode, mode).is_some());
                 let missed: Vec<u8> = table
                     .iter()
                     .copied()
@@ -96,7 +107,7 @@ impl Tally {
                 all &= missed.is_empty();
                 *text += &format!(
                     "part {} mode {mode}: {} of {} commands built; missed: {}\n  answered 0:",
-                    if part == M { 'M' } else { 'P' },
+                    part.letter,
                     table.len() - missed.len(),
                     table.len(),
                     list(&missed),
@@ -114,13 +125,14 @@ impl Tally {
     /// missing.
     fn show_pairs(&self, text: &mut String) -> bool {
         let mut all = true;
-        for part in [M, P] {
-            let table = opcodes(part);
-            for &mode in modes(part) {
+        for part in PARTS {
+            let table = part.opcodes();
+            for &mode in part.modes() {
                 let count = |map: &BTreeMap<Pair, u64>, opcode: u8| {
-                    map.get(&(part, mode, opcode)).copied().unwrap_or(0)
+                    let pair = (part.number, mode, opcode);
+                    map.get(&pair).copied().unwrap_or(0)
                 };
-                let known = |opcode: &u8| look_up(part, *opcode, mode).is_some();
+                let known = |opcode: &u8| part.command(*opcode, mode).is_some();
                 let missed: Vec<u8> = table
                     .iter()
                     .copied()
@@ -141,7 +153,7 @@ impl Tally {
                 all &= missed.is_empty() && never_done.is_empty() && outside > 0;
                 *text += &format!(
                     "part {} mode {mode}: {} of {} table opcodes sent; missed: {}\n",
-                    if part == M { 'M' } else { 'P' },
+                    part.letter,
                     table.len() - missed.len(),
                     table.len(),
                     list(&missed),
@@ -247,17 +259,17 @@ pub fn of_probes(seed: u64, count: usize) -> (String, bool) {
 
 /// How often a later refusal held behind the one that was answered.
 #[derive(Default)]
-struct Behind(BTreeMap<(u8, u8), u64>);
+struct Behind(BTreeMap<(Answer, Answer), u64>);
 
 impl Behind {
-    fn add(&mut self, answer: u8, faults: &[u8]) {
+    fn add(&mut self, answer: Answer, faults: &[Answer]) {
         for &fault in faults.iter().filter(|&&fault| fault != answer) {
             *self.0.entry((answer, fault)).or_default() += 1;
         }
     }
 
     /// Adds the count of every pair; tells whether all were met and no other.
-    fn show(&self, title: &str, wanted: &[(u8, u8)], text: &mut String) -> bool {
+    fn show(&self, title: &str, wanted: &[(Answer, Answer)], text: &mut String) -> bool {
         *text += &format!("{title}\n");
         let mut all = true;
         for pair in wanted {
@@ -299,7 +311,7 @@ pub fn of_requests(seed: u64, count: usize) -> (String, bool) {
             }
         };
         *tally.answers.entry(outcome.answer).or_default() += 1;
-        if outcome.answer == 0 {
+        if outcome.answer == Done {
             let pair = (request.part_or_wires, request.mode, request.opcode);
             *tally.done.entry(pair).or_default() += 1;
         }

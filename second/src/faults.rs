@@ -2,35 +2,39 @@
 //! which requests have several faults, so that the order of the refusals is seen.
 //! It is worked out apart from the host half itself.
 
+use crate::answer::Answer::{self, Address, Long, Reserved, Sample, Short, Size, Unknown};
 use crate::device::MOST_CLOCKS;
+use crate::parts::PARTS;
 use crate::request::{Call, Request};
-use crate::table::{look_up, modes, Command, Data, Wait, M, P};
+use crate::table::{look_up, Command, Data, Wait};
 use crate::wires::{can_be_driven, clocks_for_bits};
 
 /// Refusals of a build in the order of checking.
-pub const OF_BUILD: [u8; 6] = [5, 7, 10, 4, 11, 1];
+pub const OF_BUILD: [Answer; 6] = [Unknown, Address, Reserved, Short, Long, Size];
 /// Refusals of a gathering in the order of checking.
-pub const OF_GATHER: [u8; 3] = [5, 2, 1];
+pub const OF_GATHER: [Answer; 3] = [Unknown, Sample, Size];
 
-/// Refusals of a build that can hold at once, the earlier one first. 11 never
-/// holds with 10, since 4B runs on, nor with 4, which asks for fewer bytes.
-pub const PAIRS_OF_BUILD: [(u8, u8); 13] = [
-    (5, 7),
-    (5, 10),
-    (5, 4),
-    (5, 11),
-    (5, 1),
-    (7, 10),
-    (7, 4),
-    (7, 11),
-    (7, 1),
-    (10, 4),
-    (10, 1),
-    (4, 1),
-    (11, 1),
+/// Refusals of a build that can hold at once, the earlier one first. Long never
+/// holds with Reserved, since 4B runs on, nor with Short, which asks for fewer
+/// bytes.
+pub const PAIRS_OF_BUILD: [(Answer, Answer); 13] = [
+    (Unknown, Address),
+    (Unknown, Reserved),
+    (Unknown, Short),
+    (Unknown, Long),
+    (Unknown, Size),
+    (Address, Reserved),
+    (Address, Short),
+    (Address, Long),
+    (Address, Size),
+    (Reserved, Short),
+    (Reserved, Size),
+    (Short, Size),
+    (Long, Size),
 ];
 /// The same for a gathering.
-pub const PAIRS_OF_GATHER: [(u8, u8); 3] = [(5, 2), (5, 1), (2, 1)];
+pub const PAIRS_OF_GATHER: [(Answer, Answer); 3] =
+    [(Unknown, Sample), (Unknown, Size), (Sample, Size)];
 
 /// Clocks that a command takes with so many bytes, in wide numbers. Configuration
 /// 2 counts with its low four bits, so that a value too large needs no more.
@@ -60,24 +64,24 @@ pub fn bytes_of(data: Data, request: &Request) -> u64 {
     }
 }
 
-/// Whether one refusal other than 5 holds for the request as this command.
-fn holds(refusal: u8, request: &Request, command: &Command, mode: u8) -> bool {
+/// Whether one refusal other than Unknown holds for the request as this command.
+fn holds(refusal: Answer, request: &Request, command: &Command, mode: u8) -> bool {
     let bytes = bytes_of(command.data, request);
     match refusal {
-        7 => command.address && request.address >> 24 != 0,
-        10 => command.wait == Wait::Configuration2 && request.configuration2 >> 4 != 0,
-        4 => match command.data {
+        Address => command.address && request.address >> 24 != 0,
+        Reserved => command.wait == Wait::Configuration2 && request.configuration2 >> 4 != 0,
+        Short => match command.data {
             Data::None => false,
             Data::WriteFixed(size) => bytes < size as u64,
             _ => bytes == 0,
         },
-        11 => match command.data {
+        Long => match command.data {
             Data::None => bytes > 0,
             Data::ReadFixed(size) | Data::WriteFixed(size) => bytes > size as u64,
             Data::ReadMapped => bytes > 8,
             Data::ReadRunning | Data::WriteRunning => false,
         },
-        1 => {
+        Size => {
             let clocks = clocks_of(command, mode, request.configuration2, bytes);
             clocks > MOST_CLOCKS as u64 || clocks > request.room as u64
         }
@@ -88,16 +92,16 @@ fn holds(refusal: u8, request: &Request, command: &Command, mode: u8) -> bool {
 /// Every refusal of a build that holds. With an unknown command the later ones
 /// are those that the same request has under any command which the tables give
 /// its opcode for another part or mode.
-fn faults_of_build(request: &Request) -> Vec<u8> {
+fn faults_of_build(request: &Request) -> Vec<Answer> {
     let (part, opcode, mode) = (request.part_or_wires, request.opcode, request.mode);
     let mut meanings = Vec::new();
     let known = look_up(part, opcode, mode);
     match known {
         Some(command) => meanings.push((command, mode)),
         None => {
-            for part in [M, P] {
-                for &mode in modes(part) {
-                    meanings.extend(look_up(part, opcode, mode).map(|command| (command, mode)));
+            for part in PARTS {
+                for &mode in part.modes() {
+                    meanings.extend(part.command(opcode, mode).map(|command| (command, mode)));
                 }
             }
         }
@@ -105,7 +109,7 @@ fn faults_of_build(request: &Request) -> Vec<u8> {
     OF_BUILD
         .into_iter()
         .filter(|&refusal| match refusal {
-            5 => known.is_none(),
+            Unknown => known.is_none(),
             _ => meanings
                 .iter()
                 .any(|(command, mode)| holds(refusal, request, command, *mode)),
@@ -115,7 +119,7 @@ fn faults_of_build(request: &Request) -> Vec<u8> {
 
 /// Every refusal of a gathering that holds. With another number of wires the
 /// later ones are those that the same samples have on one, two or four.
-fn faults_of_gather(request: &Request) -> Vec<u8> {
+fn faults_of_gather(request: &Request) -> Vec<Answer> {
     let known = matches!(request.part_or_wires, 1 | 2 | 4);
     let meanings = if known {
         vec![request.part_or_wires]
@@ -133,8 +137,8 @@ fn faults_of_gather(request: &Request) -> Vec<u8> {
     OF_GATHER
         .into_iter()
         .filter(|refusal| match refusal {
-            5 => !known,
-            2 => meanings.iter().all(|&wires| stray(wires)),
+            Unknown => !known,
+            Sample => meanings.iter().all(|&wires| stray(wires)),
             _ => meanings
                 .iter()
                 .any(|&wires| whole_bytes(wires) > request.room),
@@ -143,7 +147,7 @@ fn faults_of_gather(request: &Request) -> Vec<u8> {
 }
 
 /// Every refusal that holds, in the order of checking; the first is the answer.
-pub fn faults(request: &Request) -> Vec<u8> {
+pub fn faults(request: &Request) -> Vec<Answer> {
     match request.call {
         Call::Build => faults_of_build(request),
         Call::Gather => faults_of_gather(request),

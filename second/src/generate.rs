@@ -4,39 +4,45 @@
 //! are well-formed commands for the mode, latch and registers in force, and deep
 //! states are reached. The rest are cut, stretched or spoiled on purpose.
 
-use crate::compose::{compose, disturb, pick_address, read_group, Plan};
-use crate::device::{fresh, power_cycle, share_bytes, transact, Record};
+use std::collections::BTreeMap;
+
+use crate::answer::Answer;
+use crate::compose::{compose, disturb, pick_address, Plan};
+use crate::device::{fresh, power_cycle, transact, Record};
+use crate::parts::{another, Family, Part, FIRST_FREE_NUMBER, M, P, PARTS};
+use crate::places::{share_bytes, wrap_length};
 use crate::rng::Rng;
-use crate::table::{look_up, modes, opcodes, Data, M, P};
-use crate::tape::{Chip, HEAD_BYTES, MOST_TAPE_BYTES, MOST_TAPE_SAMPLES};
+use crate::table::Data;
+use crate::tape::{Chip, HEAD_BYTES, MOST_TAPE_BYTES, MOST_TAPE_N, MOST_TAPE_SAMPLES};
 
 /// Makes tapes one after the other. It keeps a list of opcode and mode pairs of
 /// each part and works it off across tapes, so that none is left to chance.
 pub struct Maker {
     rng: Rng,
-    goals: [Vec<(u8, u8)>; 2],
+    /// By part number.
+    goals: BTreeMap<u8, Vec<(u8, u8)>>,
 }
 
 impl Maker {
     pub fn new(seed: u64) -> Maker {
         Maker {
             rng: Rng::new(seed),
-            goals: [Vec::new(), Vec::new()],
+            goals: BTreeMap::new(),
         }
     }
 
     /// The next opcode and mode to try on this part. Opcodes of the part's table
     /// are tried in all modes, also where the table does not know them.
-    fn goal(&mut self, part: u8) -> (u8, u8) {
-        let list = &mut self.goals[usize::from(part == P)];
+    fn goal(&mut self, part: &Part) -> (u8, u8) {
+        let list = self.goals.entry(part.number).or_default();
         if list.is_empty() {
-            for opcode in opcodes(part) {
-                for &mode in modes(part) {
+            for opcode in part.opcodes() {
+                for &mode in part.modes() {
                     list.push((opcode, mode));
                 }
             }
             // A few of any value as well, most of them outside the table.
-            for &mode in modes(part) {
+            for &mode in part.modes() {
                 for _ in 0..4 {
                     list.push((self.rng.byte(), mode));
                 }
@@ -88,9 +94,7 @@ impl Maker {
         };
         tape.fresh_chip();
         while length - tape.bytes.len() > 2 * (HEAD_BYTES + MOST_TAPE_SAMPLES) {
-            let part = tape.record().part;
-            let mode = tape.rng().pick(modes(part));
-            tape.go_to_mode(mode);
+            tape.go_to_any_mode();
             tape.long();
         }
         let mut bytes = tape.bytes;
@@ -141,11 +145,19 @@ impl TapeInWork<'_> {
         &mut self.maker.rng
     }
 
-    /// The record in force. A tape in work always begins with a chip.
+    /// The part in force. A tape in work always begins with a chip.
+    fn part(&self) -> &'static Part {
+        match &self.chip {
+            Some(chip) => chip.part,
+            None => &M,
+        }
+    }
+
+    /// The record in force.
     fn record(&self) -> Record {
         match &self.chip {
             Some(chip) => chip.record,
-            None => fresh(M, 10, [0; 8], [0; 8]),
+            None => fresh(&M, M.least_n, [0; 8], [0; 8]),
         }
     }
 
@@ -161,12 +173,12 @@ impl TapeInWork<'_> {
     }
 
     fn fresh_chip(&mut self) {
-        let part = self.rng().pick(&[M, M, M, P, P]);
+        let part = self.rng().pick(&[&M, &M, &M, &P, &P]);
         // Small memories keep the digests of long runs quick.
         let n = self
             .rng()
             .pick(&[10, 10, 10, 10, 10, 11, 11, 12, 12, 13, 14, 15]);
-        if self.put(3, &[part, n]) {
+        if self.put(3, &[part.number, n]) {
             self.chip = Some(Chip::fresh(part, n));
             self.hot.clear();
             if self.rng().chance(2, 3) {
@@ -178,30 +190,32 @@ impl TapeInWork<'_> {
     /// Takes a fresh chip away from its first values, so that what follows meets
     /// waits, groups, write modes and protection of all kinds.
     fn opening(&mut self) {
-        if self.record().part == M {
-            for opcode in [0x87, 0x01, 0x1A] {
-                if self.rng().chance(2, 3) {
-                    if !self.record().latch {
-                        self.plain(0x06);
+        match self.part().family {
+            Family::Mram => {
+                for opcode in [0x87, 0x01, 0x1A] {
+                    if self.rng().chance(2, 3) {
+                        if !self.record().latch {
+                            self.plain(0x06);
+                        }
+                        self.plain(opcode);
                     }
-                    self.plain(opcode);
+                }
+                // Some bytes to find again, so that a read from a wrong place shows.
+                if self.rng().chance(1, 3) {
+                    self.fill_some(0x42);
                 }
             }
-        } else {
-            if self.rng().chance(2, 3) {
-                self.plain(0xB1);
-            }
-            if self.rng().chance(1, 4) {
-                self.plain(0xC0);
+            Family::Psram => {
+                if self.rng().chance(2, 3) {
+                    self.plain(0xB1);
+                }
+                if self.rng().chance(1, 4) {
+                    self.plain(0xC0);
+                }
             }
         }
-        // Some bytes to find again, so that a read from a wrong place shows.
-        if self.record().part == M && self.rng().chance(1, 3) {
-            self.fill_some(0x42);
-        }
-        let part = self.record().part;
-        let mode = self.rng().pick(modes(part));
-        self.go_to_mode(mode);
+        self.go_to_any_mode();
+        // The same in memory.
         if self.rng().chance(1, 2) {
             self.fill_some(0x02);
         }
@@ -229,10 +243,10 @@ impl TapeInWork<'_> {
     }
 
     /// Sends a transaction as it is and tells its answer.
-    fn send(&mut self, samples: &[u8]) -> u8 {
+    fn send(&mut self, samples: &[u8]) -> Answer {
         let samples = &samples[..samples.len().min(MOST_TAPE_SAMPLES)];
         if !self.put(1, samples) {
-            return 1;
+            return Answer::Size;
         }
         let mut output = vec![0; samples.len()];
         match &mut self.chip {
@@ -246,37 +260,37 @@ impl TapeInWork<'_> {
                 )
                 .0
             }
-            None => 1,
+            None => Answer::Size,
         }
     }
 
     /// A command for the chip as it is now.
     fn samples_of(&mut self, opcode: u8, plan: &Plan) -> Vec<u8> {
-        let record = self.record();
-        compose(&mut self.maker.rng, &record, opcode, &self.hot, plan)
+        let (part, record) = (self.part(), self.record());
+        compose(&mut self.maker.rng, part, &record, opcode, &self.hot, plan)
     }
 
     /// Sends a command with nothing wrong in it but what its own draw brings.
-    fn command(&mut self, opcode: u8, plan: &Plan) -> u8 {
+    fn command(&mut self, opcode: u8, plan: &Plan) -> Answer {
         let samples = self.samples_of(opcode, plan);
         self.send(&samples)
     }
 
     /// The same, sometimes cut, stretched or spoiled.
-    fn rough_command(&mut self, opcode: u8, plan: &Plan) -> u8 {
+    fn rough_command(&mut self, opcode: u8, plan: &Plan) -> Answer {
         let mut samples = self.samples_of(opcode, plan);
         disturb(&mut self.maker.rng, &mut samples);
         self.send(&samples)
     }
 
-    fn plain(&mut self, opcode: u8) -> u8 {
+    fn plain(&mut self, opcode: u8) -> Answer {
         self.command(opcode, &Plan::default())
     }
 
     /// Draws an address for a command now, so that it can be used twice.
     fn address(&mut self, opcode: u8) -> u32 {
-        let record = self.record();
-        let address = pick_address(&mut self.maker.rng, &record, opcode, &self.hot);
+        let (part, record) = (self.part(), self.record());
+        let address = pick_address(&mut self.maker.rng, part, &record, opcode, &self.hot);
         if self.hot.len() >= 8 {
             self.hot.remove(0);
         }
@@ -285,23 +299,29 @@ impl TapeInWork<'_> {
     }
 
     fn go_to_mode(&mut self, mode: u8) {
-        let record = self.record();
-        if record.mode == mode {
+        if self.record().mode == mode {
             return;
         }
-        let opcode = match (record.part, mode) {
-            (M, 1) => 0xFF,
-            (M, 2) => 0x37,
-            (M, _) => 0x38,
-            (_, 1) => 0xF5,
-            _ => 0x35,
+        let opcode = match (self.part().family, mode) {
+            (Family::Mram, 1) => 0xFF,
+            (Family::Mram, 2) => 0x37,
+            (Family::Mram, _) => 0x38,
+            (Family::Psram, 1) => 0xF5,
+            (Family::Psram, _) => 0x35,
         };
         self.plain(opcode);
     }
 
+    fn go_to_any_mode(&mut self) {
+        let modes = self.part().modes();
+        let mode = self.rng().pick(modes);
+        self.go_to_mode(mode);
+    }
+
     /// Write enable before a write; sometimes it is left out.
     fn enable(&mut self) {
-        if self.record().part == M && !self.record().latch && !self.rng().chance(1, 9) {
+        let has_latch = self.part().family == Family::Mram;
+        if has_latch && !self.record().latch && !self.rng().chance(1, 9) {
             self.plain(0x06);
         }
     }
@@ -329,15 +349,16 @@ impl TapeInWork<'_> {
             self.damage();
             // What stands after a bad record is never read.
             if self.rng().chance(1, 3) {
-                self.put(3, &[M, 10]);
+                self.put(3, &[M.number, M.least_n]);
             }
         }
     }
 
     /// Ends the tape with a record that the reader must refuse.
     fn damage(&mut self) {
-        let part = self.rng().pick(&[M, P]);
-        let n = 10 + self.rng().below(6) as u8;
+        let row = self.rng().pick(&PARTS);
+        let (part, least_n) = (row.number, row.least_n);
+        let n = least_n + self.rng().below(usize::from(MOST_TAPE_N - least_n) + 1) as u8;
         let mut bytes = Vec::new();
         match self.rng().below(16) {
             0 => bytes.extend([8u8, 0, 1, 0].iter().take(1 + self.maker.rng.below(3))),
@@ -352,10 +373,10 @@ impl TapeInWork<'_> {
             6 => put_record(&mut bytes, 1, 3, &[part]),
             7 => put_record(&mut bytes, 3, 3, &[part, n, 0]),
             8 => put_record(&mut bytes, 0, 3, &[]),
-            9 => put_record(&mut bytes, 2, 3, &[part, 9]),
-            10 => put_record(&mut bytes, 2, 3, &[part, 16]),
+            9 => put_record(&mut bytes, 2, 3, &[part, least_n - 1]),
+            10 => put_record(&mut bytes, 2, 3, &[part, MOST_TAPE_N + 1]),
             11 => put_record(&mut bytes, 2, 3, &[0, n]),
-            12 => put_record(&mut bytes, 2, 3, &[3, n]),
+            12 => put_record(&mut bytes, 2, 3, &[FIRST_FREE_NUMBER, n]),
             13 => {
                 let more = self.rng().pick(&[1, 2, 100]);
                 let samples = MOST_TAPE_SAMPLES + more;
@@ -374,8 +395,7 @@ impl TapeInWork<'_> {
 
     /// One to some ten records that belong together.
     fn scene(&mut self) {
-        let record = self.record();
-        if record.asleep && self.rng().chance(4, 5) {
+        if self.record().asleep && self.rng().chance(4, 5) {
             return self.asleep();
         }
         match self.rng().below(200) {
@@ -388,20 +408,22 @@ impl TapeInWork<'_> {
             69..=76 => self.stray(),
             77..=87 => self.reset_scene(),
             88 | 89 => self.long(),
-            _ if record.part == M => self.scene_of_m(),
-            _ => self.scene_of_p(),
+            _ => match self.part().family {
+                Family::Mram => self.scene_of_mram(),
+                Family::Psram => self.scene_of_psram(),
+            },
         }
     }
 
     /// Brings the chip to where the next opcode and mode pair can work, and sends it.
     fn reach_goal(&mut self) {
-        let part = self.record().part;
+        let part = self.part();
         let (opcode, mode) = self.maker.goal(part);
         if self.record().asleep {
             self.plain(0xAB);
         }
         self.go_to_mode(mode);
-        let command = look_up(part, opcode, mode);
+        let command = part.command(opcode, mode);
         if let Some(command) = command {
             match command.data {
                 Data::WriteFixed(_) | Data::WriteRunning => self.enable(),
@@ -414,7 +436,11 @@ impl TapeInWork<'_> {
         let answer = self.rough_command(opcode, &Plan::default());
         // A draw that failed is tried once more, so that each pair gets its 0, or
         // its 5 where the table does not know it.
-        if answer != if command.is_some() { 0 } else { 5 } {
+        let wanted = match command {
+            Some(_) => Answer::Done,
+            None => Answer::Unknown,
+        };
+        if answer != wanted {
             match opcode {
                 0x99 => {
                     self.plain(0x66);
@@ -426,16 +452,15 @@ impl TapeInWork<'_> {
         }
     }
 
-    /// Opcodes outside the table: any, the other part's, near misses, noise.
+    /// Opcodes outside the table: any, another part's, near misses, noise.
     fn stray(&mut self) {
-        let record = self.record();
         match self.rng().below(5) {
             0 => {
                 let opcode = self.rng().byte();
                 self.rough_command(opcode, &Plan::default());
             }
             1 => {
-                let others = opcodes(if record.part == M { P } else { M });
+                let others = another(self.part().number).opcodes();
                 let opcode = self.rng().pick(&others);
                 self.rough_command(opcode, &Plan::default());
             }
@@ -467,16 +492,16 @@ impl TapeInWork<'_> {
     /// The ways in which a reset comes about or is missed.
     fn reset_scene(&mut self) {
         if self.rng().chance(1, 2) {
-            let part = self.record().part;
-            let mode = self.rng().pick(modes(part));
-            self.go_to_mode(mode);
+            self.go_to_any_mode();
         }
         if self.rng().chance(1, 3) {
-            let opcode = if self.record().part == M { 0x06 } else { 0xC0 };
-            self.plain(opcode);
+            // Something that the reset takes back.
+            self.plain(match self.part().family {
+                Family::Mram => 0x06,
+                Family::Psram => 0xC0,
+            });
         }
         let way = self.rng().below(13);
-        let record = self.record();
         let enable = self.samples_of(0x66, &Plan::default());
         let reset = self.samples_of(0x99, &Plan::default());
         let stretched = |samples: &[u8]| [samples, &[0]].concat();
@@ -495,7 +520,7 @@ impl TapeInWork<'_> {
                 let opcode = if self.rng().chance(1, 3) {
                     self.rng().pick(&[0xAB, 0x00, 0x06])
                 } else {
-                    let all = opcodes(record.part);
+                    let all = self.part().opcodes();
                     self.rng().pick(&all)
                 };
                 self.command(opcode, &Plan::default());
@@ -547,7 +572,7 @@ impl TapeInWork<'_> {
         let wake = self.samples_of(0xAB, &Plan::default());
         match self.rng().below(10) {
             0 => {
-                let all = opcodes(M);
+                let all = self.part().opcodes();
                 let opcode = self.rng().pick(&all);
                 self.rough_command(opcode, &Plan::default());
             }
@@ -577,16 +602,12 @@ impl TapeInWork<'_> {
         if self.record().asleep {
             self.plain(0xAB);
         }
-        let record = self.record();
-        let running: Vec<u8> = opcodes(record.part)
-            .into_iter()
-            .filter(|&opcode| {
-                matches!(
-                    look_up(record.part, opcode, record.mode),
-                    Some(command) if matches!(command.data, Data::ReadRunning | Data::WriteRunning)
-                )
-            })
-            .collect();
+        let (part, mode) = (self.part(), self.record().mode);
+        let mut running = part.opcodes();
+        running.retain(|&opcode| {
+            let data = part.command(opcode, mode).map(|command| command.data);
+            matches!(data, Some(Data::ReadRunning | Data::WriteRunning))
+        });
         let opcode = self.rng().pick(&running);
         self.enable();
         let long_clocks = if self.rng().chance(1, 3) {
@@ -605,7 +626,7 @@ impl TapeInWork<'_> {
         );
     }
 
-    fn scene_of_m(&mut self) {
+    fn scene_of_mram(&mut self) {
         match self.rng().below(100) {
             0..=6 => self.across_a_group(),
             7..=35 => {
@@ -681,16 +702,13 @@ impl TapeInWork<'_> {
                     self.rough_command(0x65, &Plan::default());
                 }
             }
-            89 | 90 => {
-                let mode = self.rng().pick(&[1, 2, 4]);
-                self.go_to_mode(mode);
-            }
+            89 | 90 => self.go_to_any_mode(),
             91..=93 => {
                 let opcode = self.rng().pick(&[0x06, 0x04, 0x00]);
                 self.rough_command(opcode, &Plan::default());
             }
             _ => {
-                let all = opcodes(M);
+                let all = self.part().opcodes();
                 let opcode = self.rng().pick(&all);
                 self.rough_command(opcode, &Plan::default());
             }
@@ -706,13 +724,13 @@ impl TapeInWork<'_> {
             self.enable();
             self.plain(0x87);
         }
-        let record = self.record();
-        let mut group = read_group(&record);
-        if group > 256 {
-            group = 16 << self.rng().below(5);
-        }
+        let (part, record) = (self.part(), self.record());
+        let group = match wrap_length(part, &record) {
+            Some(length) => length,
+            None => self.rng().pick(part.wrap_lengths),
+        };
         let (write, read, size) = if self.rng().chance(1, 3) {
-            (0x42, 0x4B, 256)
+            (0x42, 0x4B, part.area_bytes)
         } else {
             (0x02, 0x03, 1 << record.n)
         };
@@ -735,10 +753,11 @@ impl TapeInWork<'_> {
     /// A burst that lies in protected bytes to the last one, with a few clocks
     /// of one more byte that would not be protected.
     fn edge_of_protection(&mut self) {
-        let record = self.record();
+        let (part, record) = (self.part(), self.record());
         let bytes = 1 + self.rng().below(4);
         let (opcode, end) = if record.mode == 1 && self.rng().chance(1, 3) {
-            (0x42, 32 * (1 + self.rng().below(8)))
+            let sections = part.area_bytes / part.section_bytes;
+            (0x42, part.section_bytes * (1 + self.rng().below(sections)))
         } else if record.status & 0x20 == 0 {
             (0x02, 1 << record.n)
         } else {
@@ -772,7 +791,7 @@ impl TapeInWork<'_> {
         }
     }
 
-    fn scene_of_p(&mut self) {
+    fn scene_of_psram(&mut self) {
         match self.rng().below(100) {
             0..=54 => {
                 // Write somewhere and read it back, any write and any read.
@@ -784,8 +803,7 @@ impl TapeInWork<'_> {
                 let write = self.rng().pick(&[0x02, 0x82, 0x38]);
                 self.rough_command(write, &plan);
                 if self.rng().chance(1, 4) {
-                    let mode = self.rng().pick(&[1, 4]);
-                    self.go_to_mode(mode);
+                    self.go_to_any_mode();
                 }
                 let read = self.rng().pick(&[0x03, 0x0B, 0xEB, 0x8B]);
                 self.rough_command(read, &plan);
@@ -799,12 +817,9 @@ impl TapeInWork<'_> {
             67..=74 => {
                 self.rough_command(0xC0, &Plan::default());
             }
-            75..=82 => {
-                let mode = self.rng().pick(&[1, 4]);
-                self.go_to_mode(mode);
-            }
+            75..=82 => self.go_to_any_mode(),
             _ => {
-                let all = opcodes(P);
+                let all = self.part().opcodes();
                 let opcode = self.rng().pick(&all);
                 self.rough_command(opcode, &Plan::default());
             }

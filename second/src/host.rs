@@ -1,8 +1,9 @@
 //! The host half: samples for a command, and bytes back from output samples
 //! (document 01, "The host half").
 
+use crate::answer::Answer;
 use crate::device::MOST_CLOCKS;
-use crate::table::{look_up, Data, Wait, M};
+use crate::table::{look_up, Data, Wait};
 use crate::wires::{can_be_driven, clocks_for_bits, driven_levels, spread};
 
 /// Builds the samples of one command into `room`. Tells the answer and, for
@@ -17,26 +18,26 @@ pub fn build(
     data: &[u8],
     number: u32,
     room: &mut [u8],
-) -> (u8, u32) {
+) -> (Answer, u32) {
     // 5: a value that does not even fit a byte is not in the table either.
     let (Ok(part), Ok(opcode), Ok(mode)) =
         (u8::try_from(part), u8::try_from(opcode), u8::try_from(mode))
     else {
-        return (5, 0);
+        return (Answer::Unknown, 0);
     };
     let Some(command) = look_up(part, opcode, mode) else {
-        return (5, 0);
+        return (Answer::Unknown, 0);
     };
     let wires = command.rest_wires;
 
     // 7: only where the command sends an address at all.
     if command.address && address > 0xFF_FFFF {
-        return (7, 0);
+        return (Answer::Address, 0);
     }
 
-    // 10: configuration 2 counts for M's 4B only.
-    if part == M && opcode == 0x4B && configuration2 > 0x0F {
-        return (10, 0);
+    // 10: configuration 2 counts only where it gives the wait, which is for 4B.
+    if command.wait == Wait::Configuration2 && configuration2 > 0x0F {
+        return (Answer::Reserved, 0);
     }
 
     // 4 and 11. A read looks at the number alone, a write at the data alone.
@@ -51,10 +52,10 @@ pub fn build(
         Data::WriteRunning => (1, u64::MAX, given_bytes),
     };
     if bytes < least_bytes {
-        return (4, 0);
+        return (Answer::Short, 0);
     }
     if bytes > most_bytes {
-        return (11, 0);
+        return (Answer::Long, 0);
     }
 
     // 1: the whole length, worked out in wide numbers.
@@ -71,7 +72,7 @@ pub fn build(
     let data_clocks = bytes.saturating_mul(clocks_for_bits(8, wires) as u64);
     let clocks = (command_clocks + address_clocks + wait_clocks).saturating_add(data_clocks);
     if clocks > MOST_CLOCKS as u64 || clocks > room.len() as u64 {
-        return (1, 0);
+        return (Answer::Size, 0);
     }
 
     let mut samples = spread(opcode, mode);
@@ -90,24 +91,24 @@ pub fn build(
         _ => samples.extend(std::iter::repeat_n(0, data_clocks as usize)),
     }
     room[..samples.len()].copy_from_slice(&samples);
-    (0, samples.len() as u32)
+    (Answer::Done, samples.len() as u32)
 }
 
 /// Gathers the bytes that a device sent on so many wires. Undriven clocks are
 /// skipped wherever they stand, and a last byte that is not full is dropped.
 /// Tells the answer and, for answer 0, the number of bytes written.
-pub fn gather(wires: u32, outputs: &[u8], room: &mut [u8]) -> (u8, u32) {
+pub fn gather(wires: u32, outputs: &[u8], room: &mut [u8]) -> (Answer, u32) {
     let wires = match wires {
         1 => 1u8,
         2 => 2,
         4 => 4,
-        _ => return (5, 0),
+        _ => return (Answer::Unknown, 0),
     };
     if outputs
         .iter()
         .any(|&output| output != 0 && !can_be_driven(output, wires))
     {
-        return (2, 0);
+        return (Answer::Sample, 0);
     }
     let driven: Vec<u8> = outputs.iter().copied().filter(|&o| o != 0).collect();
     let bytes: Vec<u8> = driven
@@ -119,8 +120,8 @@ pub fn gather(wires: u32, outputs: &[u8], room: &mut [u8]) -> (u8, u32) {
         })
         .collect();
     if room.len() < bytes.len() {
-        return (1, 0);
+        return (Answer::Size, 0);
     }
     room[..bytes.len()].copy_from_slice(&bytes);
-    (0, bytes.len() as u32)
+    (Answer::Done, bytes.len() as u32)
 }

@@ -3,19 +3,26 @@
 //! documents alone.
 //!
 //! Part M is the serial MRAM and has number 1, part P the serial PSRAM and has
-//! number 2. A transaction is worked out as a whole: the samples are cut into
-//! command, address, wait, data and rest, and each piece is then looked at once.
+//! number 2. A transaction is worked out as a whole, in three steps: the samples
+//! are read (cut into command, address, wait, data and rest), what was read is
+//! judged by the answer table, and then what the answer asks for is done.
 
+pub mod answer;
 pub mod ask;
 pub mod compact;
 pub mod compose;
 pub mod coverage;
 pub mod device;
+pub mod doing;
 pub mod faults;
 pub mod generate;
 pub mod host;
+pub mod judging;
 pub mod pace;
+pub mod parts;
+pub mod places;
 pub mod probe;
+pub mod reading;
 pub mod request;
 pub mod rng;
 pub mod spoil;

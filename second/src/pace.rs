@@ -1,10 +1,11 @@
 //! Long transactions and gatherings, over and over on the same buffers, so that
 //! their time can be taken from outside (the README has the format).
 
+use crate::answer::Answer;
 use crate::compact::digest;
-use crate::device::{area_bytes, fresh, transact, Record, MOST_CLOCKS};
+use crate::device::{fresh, transact, Record, MOST_CLOCKS};
 use crate::host::{build, gather};
-use crate::table::{M, P};
+use crate::parts::{Family, Part, M, P};
 use crate::wires::clocks_for_bits;
 
 /// What is done over and over.
@@ -37,17 +38,17 @@ impl Run {
         matches!(self.wires, 1 | 2 | 4)
             && (64..=MOST_CLOCKS).contains(&self.clocks)
             && self.repeats <= 1_000_000
-            && (self.what == What::Gather || (10..=21).contains(&self.n))
+            && (self.what == What::Gather || self.command().0.allows_n(self.n))
     }
 
     /// Part and opcode. Memory is read on one wire and on four; on two wires only
     /// registers are read, and the clocks past eight bytes are rest.
-    fn command(&self) -> (u8, u8) {
+    fn command(&self) -> (&'static Part, u8) {
         match (self.what, self.wires) {
-            (What::Write, _) => (M, 0x02),
-            (_, 1) => (M, 0x03),
-            (_, 2) => (M, 0x4C),
-            _ => (P, 0x0B),
+            (What::Write, _) => (&M, 0x02),
+            (_, 1) => (&M, 0x03),
+            (_, 2) => (&M, 0x4C),
+            _ => (&P, 0x0B),
         }
     }
 
@@ -64,7 +65,7 @@ impl Run {
         let mut samples = vec![0; self.clocks];
         let mode = u32::from(self.wires);
         build(
-            u32::from(part),
+            u32::from(part.number),
             u32::from(opcode),
             mode,
             0x123,
@@ -79,10 +80,9 @@ impl Run {
     /// A fresh chip in the mode of the burst.
     fn chip(&self) -> Record {
         let (part, _) = self.command();
-        let unique = if part == M {
-            [1, 2, 3, 4, 5, 6, 7, 8]
-        } else {
-            [0; 8]
+        let unique = match part.family {
+            Family::Mram => [1, 2, 3, 4, 5, 6, 7, 8],
+            Family::Psram => [0; 8],
         };
         let mut record = fresh(part, self.n, [0; 8], unique);
         record.mode = self.wires;
@@ -107,13 +107,13 @@ impl Run {
         let samples = self.samples();
         let chip = self.chip();
         let mut memory: Vec<u8> = (0..1usize << self.n).map(pattern).collect();
-        let mut area = vec![0; area_bytes(chip.part)];
+        let mut area = vec![0; self.command().0.area_bytes];
         let mut output = vec![0; self.clocks];
         let mut done = 0;
         for _ in 0..self.repeats {
             let mut record = chip;
             let (answer, _) = transact(&mut record, &mut memory, &mut area, &samples, &mut output);
-            done += u64::from(answer == 0);
+            done += u64::from(answer == Answer::Done);
         }
         (done, output, memory)
     }
@@ -130,7 +130,7 @@ impl Run {
         let mut done = 0;
         for _ in 0..self.repeats {
             let (answer, _) = gather(u32::from(self.wires), &driven, &mut bytes);
-            done += u64::from(answer == 0);
+            done += u64::from(answer == Answer::Done);
         }
         (done, bytes, Vec::new())
     }

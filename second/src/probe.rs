@@ -1,8 +1,9 @@
 //! Probes: one call each, on any record and any sizes, to show what no tape can
 //! (the README has the format).
 
+use crate::answer::{Answer, Counts};
 use crate::compact::{digest, flags, hex, registers};
-use crate::device::{power_cycle, transact, Counts, Record};
+use crate::device::{power_cycle, transact, Record};
 
 /// Bytes before the samples of a probe.
 pub const HEAD_BYTES: usize = 64;
@@ -147,7 +148,7 @@ impl Probe {
 
 /// All that a call leaves.
 pub struct Outcome {
-    pub answer: u8,
+    pub answer: Answer,
     pub counts: Counts,
     pub record: Record,
     pub memory: Vec<u8>,
@@ -157,10 +158,10 @@ pub struct Outcome {
 
 fn line(number: usize, outcome: &Outcome) -> String {
     let record = &outcome.record;
-    let [command, address, wait, data, rest] = outcome.counts;
     format!(
-        "{number} {} {command} {address} {wait} {data} {rest} {} {} {} {} {} {} {} {} {:08X} {:08X} {:08X}\n",
+        "{number} {} {} {} {} {} {} {} {} {} {} {:08X} {:08X} {:08X}\n",
         outcome.answer,
+        outcome.counts,
         record.part,
         record.n,
         record.mode,

@@ -1,6 +1,7 @@
 //! Requests to the host half: one call each, with any arguments and any room
 //! (the README has the format).
 
+use crate::answer::Answer;
 use crate::compact::digest;
 use crate::host::{build, gather};
 
@@ -118,7 +119,7 @@ impl Request {
 
 /// All that a call leaves.
 pub struct Outcome {
-    pub answer: u8,
+    pub answer: Answer,
     /// Samples of a build, bytes of a gathering.
     pub told: u32,
     pub buffer: Vec<u8>,

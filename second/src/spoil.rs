@@ -4,84 +4,102 @@
 use crate::compose::{
     compose, disturb, pick_configurations, pick_mr0, push_idle, spoil_configurations, Plan,
 };
-use crate::device::{area_bytes, fresh, Record};
+use crate::device::{fresh, Record, MOST_CLOCKS};
+use crate::parts::{another, find, Family, Part, FIRST_FREE_NUMBER, M, P};
 use crate::probe::{Call, Probe};
 use crate::rng::Rng;
-use crate::table::{modes, opcodes, M, P};
 
-/// A random record in which nothing is wrong.
-fn valid_record(rng: &mut Rng) -> Record {
-    let part = rng.pick(&[M, M, M, P, P]);
+/// A random record of this part in which nothing is wrong.
+fn valid_record(rng: &mut Rng, part: &Part) -> Record {
     let n = match rng.below(40) {
-        0..=23 => 10,
-        24..=34 => 11 + rng.below(3),
-        35..=38 => 14 + rng.below(4),
-        _ => 18 + rng.below(4),
-    } as u8;
+        0..=23 => part.least_n,
+        24..=34 => 11 + rng.below(3) as u8,
+        35..=38 => 14 + rng.below(4) as u8,
+        _ => part.most_n - 3 + rng.below(4) as u8,
+    };
     let mut record = fresh(part, n, [0; 8], [0; 8]);
-    record.mode = rng.pick(modes(part));
+    record.mode = rng.pick(part.modes());
     record.armed = rng.chance(1, 3);
     record.identity = rng.eight();
-    if part == M {
-        record.identity[4..].fill(0);
-        record.unique = rng.eight();
-        record.serial = rng.eight();
-        record.latch = rng.chance(2, 3);
-        record.asleep = rng.chance(1, 12);
-        record.status = (rng.below(16) << 2) as u8;
-        record.area_protection = rng.byte();
-        record.configurations = pick_configurations(rng);
-    } else {
-        record.mr0 = pick_mr0(rng);
-        record.toggle = rng.chance(1, 3);
+    record.identity[part.identity_bytes..].fill(0);
+    match part.family {
+        Family::Mram => {
+            record.unique = rng.eight();
+            record.serial = rng.eight();
+            record.latch = rng.chance(2, 3);
+            record.asleep = rng.chance(1, 12);
+            record.status = (rng.below(16) << 2) as u8;
+            record.area_protection = rng.byte();
+            record.configurations = pick_configurations(rng, part);
+        }
+        Family::Psram => {
+            record.mr0 = pick_mr0(rng);
+            record.toggle = rng.chance(1, 3);
+        }
     }
     record
 }
 
 /// Puts one thing into a record that its part does not allow.
 fn spoil_record(rng: &mut Rng, record: &mut Record) {
-    let bit = 1u8 << rng.below(8);
-    let at = rng.below(8);
-    if record.part == M {
-        match rng.below(16) {
-            0 | 1 => record.mode = rng.pick(&[0, 3, 5, 6, 7, 8, 255]),
-            2..=4 => record.status |= rng.pick(&[0x80, 0x40, 0x02, 0x01]),
-            5..=11 => spoil_configurations(rng, &mut record.configurations),
-            12 => record.mr0 = rng.pick(&[bit, 0x60]),
-            13 => record.toggle = true,
-            _ => record.identity[4 + at % 4] = bit,
-        }
-    } else {
-        match rng.below(16) {
-            0 | 1 => record.mode = rng.pick(&[0, 2, 2, 3, 5, 8, 255]),
-            2..=6 => record.mr0 |= rng.pick(&[0x80, 0x10, 0x08, 0x04, 0x03]),
-            7 => record.status = bit,
-            8 => record.area_protection = bit,
-            9 | 10 => record.configurations[at % 4] = bit,
-            11 => record.latch = true,
-            12 => record.asleep = true,
-            13 => record.serial[at] = bit,
-            _ => record.unique[at] = bit,
-        }
+    match find(record.part) {
+        Some(part) => match part.family {
+            Family::Mram => spoil_mram(rng, part, record),
+            Family::Psram => spoil_psram(rng, record),
+        },
+        // Of a record of no part nothing shows but answer 1, whatever is in it.
+        None => spoil_psram(rng, record),
     }
 }
 
-/// Sets an n that is out of range, or a part that is not one.
-fn spoil_limits(rng: &mut Rng, probe: &mut Probe) {
+fn spoil_mram(rng: &mut Rng, part: &Part, record: &mut Record) {
+    let bit = 1u8 << rng.below(8);
+    let at = rng.below(8);
+    let past_identity = &mut record.identity[part.identity_bytes..];
+    match rng.below(16) {
+        0 | 1 => record.mode = rng.pick(&[0, 3, 5, 6, 7, 8, 255]),
+        2..=4 => record.status |= rng.pick(&[0x80, 0x40, 0x02, 0x01]),
+        5..=11 => spoil_configurations(rng, part, &mut record.configurations),
+        12 => record.mr0 = rng.pick(&[bit, P.fresh_mr0]),
+        13 => record.toggle = true,
+        _ => past_identity[at % past_identity.len()] = bit,
+    }
+}
+
+fn spoil_psram(rng: &mut Rng, record: &mut Record) {
+    let bit = 1u8 << rng.below(8);
+    let at = rng.below(8);
+    match rng.below(16) {
+        0 | 1 => record.mode = rng.pick(&[0, 2, 2, 3, 5, 8, 255]),
+        2..=6 => record.mr0 |= rng.pick(&[0x80, 0x10, 0x08, 0x04, 0x03]),
+        7 => record.status = bit,
+        8 => record.area_protection = bit,
+        9 | 10 => record.configurations[at % 4] = bit,
+        11 => record.latch = true,
+        12 => record.asleep = true,
+        13 => record.serial[at] = bit,
+        _ => record.unique[at] = bit,
+    }
+}
+
+/// Sets an n that is out of the part's range, or a part that is not one.
+fn spoil_limits(rng: &mut Rng, part: &Part, probe: &mut Probe) {
+    let free = FIRST_FREE_NUMBER;
     match rng.below(5) {
         0 => {
             // The memory has the size that this n would have.
-            probe.record.n = 9;
-            probe.memory_bytes = 512;
+            probe.record.n = part.least_n - 1;
+            probe.memory_bytes = 1 << probe.record.n;
         }
-        1 => probe.record.n = 22,
+        1 => probe.record.n = part.most_n + 1,
         2 => probe.record.n = rng.pick(&[0, 1, 8, 23, 24, 32, 63, 64, 255]),
-        3 => probe.record.part = rng.pick(&[0, 3, 4, 255]),
+        3 => probe.record.part = rng.pick(&[0, free, free + 1, 255]),
         _ => {
-            // The other part, with that part's area: every foreign field is left.
-            probe.record.part = if probe.record.part == M { P } else { M };
+            // Another part, with that part's area: every foreign field is left.
+            let other = another(probe.record.part);
+            probe.record.part = other.number;
             if rng.chance(1, 2) {
-                probe.area_bytes = area_bytes(probe.record.part);
+                probe.area_bytes = other.area_bytes;
             }
         }
     }
@@ -89,13 +107,15 @@ fn spoil_limits(rng: &mut Rng, probe: &mut Probe) {
 
 /// Makes one buffer a wrong size.
 fn spoil_sizes(rng: &mut Rng, probe: &mut Probe) {
-    const MOST: usize = 1 << 21;
+    // No probe has a larger memory than the largest of M and P.
+    const MOST: usize = 1 << M.most_n;
+    let (area, section) = (M.area_bytes, M.section_bytes);
     match rng.below(8) {
         0 => probe.memory_bytes = (probe.memory_bytes + 1).min(MOST - 1),
         1 => probe.memory_bytes = probe.memory_bytes.saturating_sub(1),
         2 => probe.memory_bytes /= 2,
         3 => probe.memory_bytes = rng.pick(&[0, 1, 1000]),
-        4 => probe.area_bytes = rng.pick(&[0, 1, 32, 255, 256, 257, 512]),
+        4 => probe.area_bytes = rng.pick(&[0, 1, section, area - 1, area, area + 1, 2 * area]),
         5 if probe.memory_bytes < MOST => probe.memory_bytes *= 2,
         _ => probe.output_bytes = probe.samples.len().saturating_sub(1 + rng.below(2)),
     }
@@ -103,24 +123,25 @@ fn spoil_sizes(rng: &mut Rng, probe: &mut Probe) {
 
 /// One probe.
 fn one_probe(rng: &mut Rng) -> Probe {
-    let record = valid_record(rng);
+    let part = rng.pick(&[&M, &M, &M, &P, &P]);
+    let record = valid_record(rng, part);
     let call = if rng.chance(1, 12) {
         Call::PowerCycle
     } else {
         Call::Transact
     };
-    let all = opcodes(record.part);
+    let (is_mram, is_psram) = (part.family == Family::Mram, part.family == Family::Psram);
     let opcode = match rng.below(40) {
         0 => rng.byte(),
-        1 => rng.pick(&opcodes(if record.part == M { P } else { M })),
+        1 => rng.pick(&another(part.number).opcodes()),
         2 | 3 if record.armed => 0x99,
         4..=19 if record.asleep => 0xAB,
         // Writes have the most ways to end, so they come more often.
-        20..=29 if record.part == M => rng.pick(&[0x01, 0x1A, 0x87, 0xC2, 0x02, 0x02, 0x42]),
-        30 | 31 if record.part == M => 0x65,
-        32..=34 if record.part == M => rng.pick(&[0x03, 0x03, 0x4B]),
-        20..=25 => rng.pick(&[0xB1, 0x02, 0x82, 0x38]),
-        _ => rng.pick(&all),
+        20..=29 if is_mram => rng.pick(&[0x01, 0x1A, 0x87, 0xC2, 0x02, 0x02, 0x42]),
+        30 | 31 if is_mram => 0x65,
+        32..=34 if is_mram => rng.pick(&[0x03, 0x03, 0x4B]),
+        20..=25 if is_psram => rng.pick(&[0xB1, 0x02, 0x82, 0x38]),
+        _ => rng.pick(&part.opcodes()),
     };
     let mut samples = Vec::new();
     if call == Call::Transact || rng.chance(1, 8) {
@@ -131,16 +152,16 @@ fn one_probe(rng: &mut Rng) -> Probe {
             bad_value: rng.chance(1, 6),
             ..Plan::default()
         };
-        samples = compose(rng, &record, opcode, &hot, &plan);
+        samples = compose(rng, part, &record, opcode, &hot, &plan);
         disturb(rng, &mut samples);
         match rng.below(400) {
             // The most clocks there may be, and one more.
             0 | 1 => {
-                let more = 65_535 - samples.len();
+                let more = MOST_CLOCKS - samples.len();
                 push_idle(rng, &mut samples, more, true);
             }
             2 => {
-                let more = 65_536 - samples.len();
+                let more = MOST_CLOCKS + 1 - samples.len();
                 push_idle(rng, &mut samples, more, true);
                 if rng.chance(1, 3) {
                     samples[0] = 16;
@@ -158,7 +179,7 @@ fn one_probe(rng: &mut Rng) -> Probe {
         call,
         record,
         memory_bytes: 1 << record.n,
-        area_bytes: area_bytes(record.part),
+        area_bytes: part.area_bytes,
         output_bytes: samples.len() + rng.pick(&[0, 0, 0, 1, 2, 7]),
         seed: rng.draw() as u32,
         samples,
@@ -172,7 +193,7 @@ fn one_probe(rng: &mut Rng) -> Probe {
         for _ in 0..1 + rng.below(2) {
             match rng.below(10) {
                 0..=5 => spoil_record(rng, &mut probe.record),
-                6 => spoil_limits(rng, &mut probe),
+                6 => spoil_limits(rng, part, &mut probe),
                 7 | 8 => spoil_sizes(rng, &mut probe),
                 _ => {
                     if !probe.samples.is_empty() {

@@ -1,14 +1,11 @@
-//! The command tables of both parts (document 01, "Commands of part M" and
+//! The command tables of both families (document 01, "Commands of part M" and
 //! "Commands of part P").
 //!
 //! The opcodes of M's writes are those of document 000, with document 002 where
 //! the scan of 000 is damaged: 87 for the configurations, C2 for the serial
 //! number, 1A for the area protection, 02 for memory, 42 for the area.
 
-/// Part number of the MRAM.
-pub const M: u8 = 1;
-/// Part number of the PSRAM.
-pub const P: u8 = 2;
+use crate::parts::{find, Family, Part};
 
 /// The data phase of a command, sizes in bytes.
 #[derive(Clone, Copy, PartialEq, Eq, Debug)]
@@ -64,17 +61,43 @@ fn addressed(wires: u8, wait_clocks: usize, data: Data) -> Option<Command> {
     })
 }
 
-/// The command for this part, opcode and bus mode, or nothing where the table
-/// has none (which is answer 5).
-pub fn look_up(part: u8, opcode: u8, mode: u8) -> Option<Command> {
-    match part {
-        M if matches!(mode, 1 | 2 | 4) => look_up_m(opcode, mode),
-        P if matches!(mode, 1 | 4) => look_up_p(opcode, mode),
-        _ => None,
+/// The command for this part number, opcode and bus mode, or nothing where there
+/// is no such part or its table has none (which is answer 5).
+pub fn look_up(number: u8, opcode: u8, mode: u8) -> Option<Command> {
+    find(number)?.command(opcode, mode)
+}
+
+impl Part {
+    /// Bus modes that the part has.
+    pub fn modes(&self) -> &'static [u8] {
+        match self.family {
+            Family::Mram => &[1, 2, 4],
+            Family::Psram => &[1, 4],
+        }
+    }
+
+    /// The command for this opcode and bus mode, if the part's table has one.
+    pub fn command(&self, opcode: u8, mode: u8) -> Option<Command> {
+        if !self.modes().contains(&mode) {
+            return None;
+        }
+        match self.family {
+            Family::Mram => mram_command(opcode, mode),
+            Family::Psram => psram_command(opcode, mode),
+        }
+    }
+
+    /// All opcodes that the part knows in at least one mode, in rising order.
+    pub fn opcodes(&self) -> Vec<u8> {
+        let known = |opcode: &u8| {
+            let mut modes = self.modes().iter();
+            modes.any(|&mode| self.command(*opcode, mode).is_some())
+        };
+        (0..=255).filter(known).collect()
     }
 }
 
-fn look_up_m(opcode: u8, mode: u8) -> Option<Command> {
+fn mram_command(opcode: u8, mode: u8) -> Option<Command> {
     match opcode {
         // No operation, write enable and disable, sleep and wake, reset enable and reset.
         0x00 | 0x06 | 0x04 | 0xB9 | 0xAB | 0x66 | 0x99 => bare(mode, Data::None),
@@ -103,7 +126,7 @@ fn look_up_m(opcode: u8, mode: u8) -> Option<Command> {
     }
 }
 
-fn look_up_p(opcode: u8, mode: u8) -> Option<Command> {
+fn psram_command(opcode: u8, mode: u8) -> Option<Command> {
     // Most waits differ between the two modes.
     let wait = |one: usize, four: usize| if mode == 1 { one } else { four };
     match opcode {
@@ -121,38 +144,6 @@ fn look_up_p(opcode: u8, mode: u8) -> Option<Command> {
         0x35 if mode == 1 => bare(1, Data::None),
         0xF5 if mode == 4 => bare(4, Data::None),
         0x66 | 0x99 | 0xC0 => bare(mode, Data::None),
-        _ => None,
-    }
-}
-
-/// Bus modes that a part has.
-pub fn modes(part: u8) -> &'static [u8] {
-    match part {
-        M => &[1, 2, 4],
-        P => &[1, 4],
-        _ => &[],
-    }
-}
-
-/// All opcodes that the part knows in at least one mode, in rising order.
-pub fn opcodes(part: u8) -> Vec<u8> {
-    (0..=255u8)
-        .filter(|&opcode| {
-            modes(part)
-                .iter()
-                .any(|&mode| look_up(part, opcode, mode).is_some())
-        })
-        .collect()
-}
-
-/// Size in bytes of the register that opcode 65 finds at this address, or nothing
-/// where 000's table of register addresses has no entry. Only the first address
-/// of a long register is an entry.
-pub fn mapped_size(address: u32) -> Option<usize> {
-    match address {
-        0x00 | 0x02 | 0x03 | 0x04 | 0x05 => Some(1),
-        0x30 => Some(4),
-        0x40 => Some(8),
         _ => None,
     }
 }

@@ -1,13 +1,16 @@
 //! The bench tape: its reader, the chip that it drives, and the lines that the
 //! bench prints (document 01, "Bench tape").
 
-use crate::device::{area_bytes, fresh, power_cycle, transact, Counts, Record};
-use crate::table::{M, P};
+use crate::answer::{Answer, Counts};
+use crate::device::{fresh, power_cycle, transact, Record};
+use crate::parts::{find, Part};
 
 /// The longest tape in bytes.
 pub const MOST_TAPE_BYTES: usize = 65_536;
 /// The most samples in one transaction of a tape.
 pub const MOST_TAPE_SAMPLES: usize = 4_096;
+/// The largest n of a chip on a tape; the least is that of its part.
+pub const MOST_TAPE_N: u8 = 15;
 /// Bytes before a payload: two of length, two of kind.
 pub const HEAD_BYTES: usize = 4;
 
@@ -16,7 +19,7 @@ pub const HEAD_BYTES: usize = 4;
 pub enum Entry<'a> {
     Transaction(&'a [u8]),
     PowerCycle,
-    Fresh { part: u8, n: u8 },
+    Fresh { part: &'static Part, n: u8 },
 }
 
 /// What the reader finds at its place.
@@ -63,10 +66,15 @@ impl<'a> Reader<'a> {
             return Next::Bad(self.place);
         };
         let entry = match (kind, payload) {
-            (1, samples) if length <= MOST_TAPE_SAMPLES => Entry::Transaction(samples),
-            (2, []) => Entry::PowerCycle,
-            (3, &[part @ (M | P), n @ 10..=15]) => Entry::Fresh { part, n },
-            _ => return Next::Bad(self.place),
+            (1, samples) if length <= MOST_TAPE_SAMPLES => Some(Entry::Transaction(samples)),
+            (2, []) => Some(Entry::PowerCycle),
+            (3, &[number, n]) if n <= MOST_TAPE_N => find(number)
+                .filter(|part| part.allows_n(n))
+                .map(|part| Entry::Fresh { part, n }),
+            _ => None,
+        };
+        let Some(entry) = entry else {
+            return Next::Bad(self.place);
         };
         match entry {
             Entry::Fresh { .. } => self.chip_seen = true,
@@ -81,6 +89,7 @@ impl<'a> Reader<'a> {
 /// A record together with the memory and the area it belongs to.
 #[derive(Clone, PartialEq, Eq, Debug)]
 pub struct Chip {
+    pub part: &'static Part,
     pub record: Record,
     pub memory: Vec<u8>,
     pub area: Vec<u8>,
@@ -89,11 +98,12 @@ pub struct Chip {
 impl Chip {
     /// A fresh chip as the tape makes it: all numbers and all memory 0. The
     /// reader has seen to it that `n` is small.
-    pub fn fresh(part: u8, n: u8) -> Chip {
+    pub fn fresh(part: &'static Part, n: u8) -> Chip {
         Chip {
+            part,
             record: fresh(part, n, [0; 8], [0; 8]),
             memory: vec![0; 1usize << n],
-            area: vec![0; area_bytes(part)],
+            area: vec![0; part.area_bytes],
         }
     }
 }
@@ -105,7 +115,7 @@ pub struct Step<'a> {
     pub entry: Entry<'a>,
     /// The chip's record before this step, if there was a chip.
     pub before: Option<Record>,
-    pub answer: u8,
+    pub answer: Answer,
     pub counts: Counts,
     /// The chip after this step.
     pub chip: &'a Chip,
@@ -154,7 +164,7 @@ pub fn run(tape: &[u8], look: &mut dyn FnMut(&Step)) -> Ending {
         let (answer, counts) = match (entry, &mut chip) {
             (Entry::Fresh { part, n }, _) => {
                 chip = Some(Chip::fresh(part, n));
-                (0, [0; 5])
+                (Answer::Done, Counts::default())
             }
             (Entry::PowerCycle, Some(chip)) => {
                 power_cycle(&mut chip.record, &mut chip.memory, &mut chip.area)
@@ -170,7 +180,7 @@ pub fn run(tape: &[u8], look: &mut dyn FnMut(&Step)) -> Ending {
                 )
             }
             // The reader lets nothing by before a fresh chip.
-            (_, None) => (0, [0; 5]),
+            (_, None) => (Answer::Done, Counts::default()),
         };
         if let Some(chip) = &chip {
             look(&Step {
@@ -188,13 +198,9 @@ pub fn run(tape: &[u8], look: &mut dyn FnMut(&Step)) -> Ending {
 
 /// All that the bench prints for one tape, each line with its line feed.
 pub fn bench(tape: &[u8]) -> String {
-    let mut text = String::from("record answer command address wait data rest\n");
+    let mut text = format!("record answer {}\n", Counts::TITLE);
     let ending = run(tape, &mut |step| {
-        let [command, address, wait, data, rest] = step.counts;
-        text += &format!(
-            "{} {} {command} {address} {wait} {data} {rest}\n",
-            step.number, step.answer
-        );
+        text += &format!("{} {} {}\n", step.number, step.answer, step.counts);
     });
     text += &format!("{ending}\n");
     text

@@ -2,6 +2,7 @@
 
 mod common;
 use common::*;
+use second::answer::{Answer, Class, Counts};
 use second::device::{power_cycle, transact, Record};
 
 /// Calls with everything given apart and tells what changed.
@@ -21,8 +22,38 @@ fn call(
         && memory.iter().all(|&byte| byte == 0x11)
         && area.iter().all(|&byte| byte == 0x22)
         && output.iter().all(|&byte| byte == 0x33)
-        && counts == [0; 5];
-    (answer, unchanged)
+        && counts == Counts::default();
+    (answer.number(), unchanged)
+}
+
+/// The paper's numbers, and which answers leave what.
+#[test]
+fn numbers_and_classes() {
+    let answers = [
+        Answer::Done,
+        Answer::Size,
+        Answer::Sample,
+        Answer::State,
+        Answer::Short,
+        Answer::Unknown,
+        Answer::Asleep,
+        Answer::Address,
+        Answer::Latch,
+        Answer::Protected,
+        Answer::Reserved,
+        Answer::Long,
+        Answer::Unarmed,
+    ];
+    for (number, answer) in answers.into_iter().enumerate() {
+        assert_eq!(usize::from(answer.number()), number);
+        assert_eq!(answer.to_string(), number.to_string());
+        let class = match number {
+            0 => Class::Done,
+            1..=3 => Class::Refused,
+            _ => Class::Declined,
+        };
+        assert_eq!(answer.class(), class);
+    }
 }
 
 #[test]
@@ -101,8 +132,8 @@ fn row_3_state_of_m() {
         let mut after = record;
         let cycle = power_cycle(&mut after, &mut [0; 1024], &mut [0; 256]);
         assert!(answer == (3, true) || answer.0 == 4);
-        assert_eq!(cycle.0 == 3, answer.0 == 3);
-        assert!(cycle.0 == 0 || after == record);
+        assert_eq!(cycle.0 == Answer::State, answer.0 == 3);
+        assert!(cycle.0 == Answer::Done || after == record);
         answer.0 == 4
     };
     for value in 0..=255u8 {
@@ -155,7 +186,7 @@ fn row_3_state_of_p() {
         let mut after = record;
         let cycle = power_cycle(&mut after, &mut [0; 1024], &mut []);
         assert!(answer == (3, true) || answer.0 == 4);
-        assert_eq!(cycle.0 == 3, answer.0 == 3);
+        assert_eq!(cycle.0 == Answer::State, answer.0 == 3);
         answer.0 == 4
     };
     for value in 0..=255u8 {
@@ -202,7 +233,7 @@ fn row_4_command_bits() {
             let mut chip = Bench::m();
             chip.record.mode = mode;
             let samples = &on(mode, &[0x06])[..short as usize];
-            assert_eq!(chip.full(samples), (4, [short, 0, 0, 0, 0]));
+            assert_eq!(chip.full(samples), (4, five(short, 0, 0, 0, 0)));
             assert!(!chip.record.latch);
         }
     }
@@ -220,7 +251,7 @@ fn row_6_asleep() {
             let before = chip.record;
             let (answer, counts) = chip.full(&join(&[&on(mode, &[opcode]), &[0; 5]]));
             let command = u32::from(8 / mode);
-            assert_eq!(counts, [command, 0, 0, 0, 5]);
+            assert_eq!(counts, five(command, 0, 0, 0, 5));
             // AB with clocks after it is 11; all else is 6, known or not.
             assert_eq!(answer, if opcode == 0xAB { 11 } else { 6 });
             assert_eq!(
@@ -255,7 +286,7 @@ fn row_5_unknown_opcodes_of_m() {
             let (answer, counts) = chip.full(&join(&[&on(mode, &[opcode]), &[0; 3]]));
             assert_eq!(answer != 5, known, "{opcode:02X} in mode {mode}");
             if !known {
-                assert_eq!(counts, [u32::from(8 / mode), 0, 0, 0, 3]);
+                assert_eq!(counts, five(u32::from(8 / mode), 0, 0, 0, 3));
             }
         }
     }
@@ -292,7 +323,7 @@ fn row_4_address() {
                 // All ones: it would be a bad address if it were whole.
                 let samples = join(&[&on(mode, &[opcode]), &vec![15; short as usize]]);
                 let command = u32::from(8 / mode);
-                assert_eq!(chip.full(&samples), (4, [command, short, 0, 0, 0]));
+                assert_eq!(chip.full(&samples), (4, five(command, short, 0, 0, 0)));
             }
         }
     }
@@ -300,7 +331,7 @@ fn row_4_address() {
     for opcode in [0xEB, 0x38] {
         let mut chip = Bench::p();
         let samples = join(&[&on(1, &[opcode]), &[0; 5]]);
-        assert_eq!(chip.full(&samples), (4, [8, 5, 0, 0, 0]));
+        assert_eq!(chip.full(&samples), (4, five(8, 5, 0, 0, 0)));
     }
 }
 
@@ -309,19 +340,22 @@ fn row_7_address() {
     let mut chip = Bench::m();
     // Refused before the missing data is seen, and before the latch.
     chip.record.configurations[3] = 0x04;
-    assert_eq!(chip.full(&on(1, &[0x02, 0, 4, 0])), (7, [8, 24, 0, 0, 0]));
+    assert_eq!(
+        chip.full(&on(1, &[0x02, 0, 4, 0])),
+        (7, five(8, 24, 0, 0, 0))
+    );
     assert_eq!(
         chip.full(&on(1, &[0x02, 0x80, 0, 0, 1, 2])),
-        (7, [8, 24, 0, 0, 16])
+        (7, five(8, 24, 0, 0, 16))
     );
     assert_eq!(
         chip.full(&on(1, &[0x42, 0, 1, 0, 1])),
-        (7, [8, 24, 0, 0, 8])
+        (7, five(8, 24, 0, 0, 8))
     );
     // The clocks that would have been wait are rest too.
     assert_eq!(
         chip.full(&on(1, &[0x4B, 0, 1, 0, 1, 1])),
-        (7, [8, 24, 0, 0, 16])
+        (7, five(8, 24, 0, 0, 16))
     );
     assert_eq!(chip.write(0x4B, 0xFF, &[]), 0);
     for n in 10..=21u8 {
@@ -351,7 +385,7 @@ fn row_4_data() {
                 chip.record.mode = mode;
                 // Even with the latch down and with bad values: row 4 is above.
                 let samples = join(&[&on(mode, &[opcode]), &vec![15; clocks]]);
-                let expected = [u32::from(8 / mode), 0, 0, clocks as u32, 0];
+                let expected = five(u32::from(8 / mode), 0, 0, clocks as u32, 0);
                 assert_eq!(chip.full(&samples), (4, expected));
             }
         }
@@ -359,9 +393,9 @@ fn row_4_data() {
     for clocks in 0..8u32 {
         let mut chip = Bench::m();
         let samples = join(&[&on(1, &[0x02, 0, 0, 0]), &vec![1; clocks as usize]]);
-        assert_eq!(chip.full(&samples), (4, [8, 24, 0, clocks, 0]));
+        assert_eq!(chip.full(&samples), (4, five(8, 24, 0, clocks, 0)));
         let mut chip = Bench::p();
-        assert_eq!(chip.full(&samples), (4, [8, 24, 0, clocks, 0]));
+        assert_eq!(chip.full(&samples), (4, five(8, 24, 0, clocks, 0)));
     }
 }
 
@@ -371,7 +405,7 @@ fn row_11_long() {
         let mut chip = Bench::m();
         let before = chip.record;
         let samples = join(&[&on(1, &[opcode]), &[1]]);
-        assert_eq!(chip.full(&samples), (11, [8, 0, 0, 0, 1]));
+        assert_eq!(chip.full(&samples), (11, five(8, 0, 0, 0, 1)));
         assert_eq!(chip.record, before);
     }
     for (opcode, size) in [(0x01u8, 1usize), (0x1A, 1), (0x87, 4), (0xC2, 8)] {
@@ -379,13 +413,13 @@ fn row_11_long() {
         let before = chip.record;
         let samples = join(&[&on(1, &[opcode]), &vec![0; size * 8 + 1]]);
         // The latch is down and zeros are no good configurations: 11 is above both.
-        assert_eq!(chip.full(&samples), (11, [8, 0, 0, size as u32 * 8, 1]));
+        assert_eq!(chip.full(&samples), (11, five(8, 0, 0, size as u32 * 8, 1)));
         assert_eq!(chip.record, before);
     }
     let mut chip = Bench::p();
     assert_eq!(
         chip.full(&join(&[&on(1, &[0xB1, 0, 0, 0, 0xFF]), &[0; 9]])),
-        (11, [8, 24, 0, 8, 9])
+        (11, five(8, 24, 0, 8, 9))
     );
     assert_eq!(chip.record.mr0, 0x60);
 }
@@ -393,7 +427,7 @@ fn row_11_long() {
 #[test]
 fn row_12_unarmed() {
     for mut chip in [Bench::m(), Bench::p()] {
-        assert_eq!(chip.full(&on(1, &[0x99])), (12, [8, 0, 0, 0, 0]));
+        assert_eq!(chip.full(&on(1, &[0x99])), (12, five(8, 0, 0, 0, 0)));
         assert_eq!(chip.say_and(&[0x99], 1), 11);
         assert_eq!(chip.say(&[0x66]), 0);
         assert_eq!(chip.say(&[0x99]), 0);
@@ -521,7 +555,7 @@ fn row_9_looks_at_whole_bytes_only() {
     chip.record.status = 0x24;
     // One whole byte at 0Fh, protected; seven clocks of one at 10h, which is not.
     let samples = join(&[&on(1, &[0x02, 0, 0, 0x0F, 0xEE]), &[1; 7]]);
-    assert_eq!(chip.full(&samples), (9, [8, 24, 0, 15, 0]));
+    assert_eq!(chip.full(&samples), (9, five(8, 24, 0, 15, 0)));
     assert_eq!(chip.memory[0x0F..0x11], [0, 0]);
 }
 
@@ -612,21 +646,21 @@ fn reads_may_end_anywhere_after_the_address() {
         let mut chip = Bench::m();
         let (answer, counts) = chip.full(&whole[..clocks]);
         let left = |from: usize, most: usize| clocks.saturating_sub(from).min(most) as u32;
-        let expected = [
+        let expected = five(
             left(0, 8),
             left(8, 24),
             left(32, 8),
             left(40, 64),
             left(104, 5),
-        ];
+        );
         assert_eq!(counts, expected);
         assert_eq!(answer, if clocks < 32 { 4 } else { 0 });
         let driven = out(1, &chip.record.unique);
-        assert_eq!(chip.driven(), driven[..expected[3] as usize]);
+        assert_eq!(chip.driven(), driven[..expected.data as usize]);
         let first = 40.min(clocks);
         assert!(chip.output[..first].iter().all(|&byte| byte == 0));
     }
     // Without an address it is the command that must be whole.
     let mut chip = Bench::m();
-    assert_eq!(chip.full(&on(1, &[0x9F])), (0, [8, 0, 0, 0, 0]));
+    assert_eq!(chip.full(&on(1, &[0x9F])), (0, five(8, 0, 0, 0, 0)));
 }

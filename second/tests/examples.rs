@@ -9,11 +9,11 @@ fn a_write_enable_on_two_and_four_wires() {
     assert_eq!(second::wires::spread(0x06, 4), [0, 6]);
     let mut chip = Bench::m();
     chip.record.mode = 2;
-    assert_eq!(chip.full(&[0, 0, 1, 2]), (0, [4, 0, 0, 0, 0]));
+    assert_eq!(chip.full(&[0, 0, 1, 2]), (0, five(4, 0, 0, 0, 0)));
     assert!(chip.record.latch);
     let mut chip = Bench::m();
     chip.record.mode = 4;
-    assert_eq!(chip.full(&[0, 6]), (0, [2, 0, 0, 0, 0]));
+    assert_eq!(chip.full(&[0, 6]), (0, five(2, 0, 0, 0, 0)));
     assert!(chip.record.latch);
 }
 
@@ -23,7 +23,7 @@ fn b_fast_read_of_p_on_four_wires() {
     chip.record.mode = 4;
     chip.memory[0x123] = 0xA5;
     let samples = join(&[&on(4, &join(&[&[0x0B], &at(0x123)])), &[0; 4], &[0; 2]]);
-    assert_eq!(chip.full(&samples), (0, [2, 6, 4, 2, 0]));
+    assert_eq!(chip.full(&samples), (0, five(2, 6, 4, 2, 0)));
     assert_eq!(chip.output[12..14], [0xFA, 0xF5]);
     assert_eq!(chip.output[..12], [0; 12]);
 }
@@ -33,7 +33,7 @@ fn c_quad_read_of_p_in_mode_1() {
     let mut chip = Bench::p();
     chip.memory[0x2FE] = 0x3C;
     let samples = join(&[&on(1, &[0xEB]), &on(4, &at(0x2FE)), &[0; 6], &[0; 2]]);
-    assert_eq!(chip.full(&samples), (0, [8, 6, 6, 2, 0]));
+    assert_eq!(chip.full(&samples), (0, five(8, 6, 6, 2, 0)));
     assert_eq!(chip.driven(), [0xF3, 0xFC]);
 }
 
@@ -42,7 +42,7 @@ fn d_read_of_p_on_one_wire() {
     let mut chip = Bench::p();
     chip.memory[7] = 0xA5;
     let samples = join(&[&on(1, &[0x03, 0, 0, 7]), &[0; 8]]);
-    assert_eq!(chip.full(&samples), (0, [8, 24, 0, 8, 0]));
+    assert_eq!(chip.full(&samples), (0, five(8, 24, 0, 8, 0)));
     assert_eq!(
         chip.output[32..40],
         [0x22, 0x20, 0x22, 0x20, 0x20, 0x22, 0x20, 0x22]
@@ -54,7 +54,7 @@ fn e_any_register_of_m_on_two_wires() {
     let mut chip = Bench::m();
     chip.record.mode = 2;
     let samples = join(&[&on(2, &[0x65, 0, 0, 3]), &[0; 4], &[0; 4]]);
-    assert_eq!(chip.full(&samples), (0, [4, 12, 4, 4, 0]));
+    assert_eq!(chip.full(&samples), (0, five(4, 12, 4, 4, 0)));
     assert_eq!(chip.driven(), out(2, &[0x08]));
 }
 
@@ -99,7 +99,7 @@ fn i_burst_within_a_protected_top() {
 #[test]
 fn j_no_clocks() {
     for mut chip in [Bench::m(), Bench::p()] {
-        assert_eq!(chip.full(&[]), (4, [0; 5]));
+        assert_eq!(chip.full(&[]), (4, five(0, 0, 0, 0, 0)));
     }
 }
 
@@ -107,7 +107,7 @@ fn j_no_clocks() {
 fn k_write_enable_with_nine_clocks() {
     let mut chip = Bench::m();
     let samples = join(&[&on(1, &[0x06]), &[0]]);
-    assert_eq!(chip.full(&samples), (11, [8, 0, 0, 0, 1]));
+    assert_eq!(chip.full(&samples), (11, five(8, 0, 0, 0, 1)));
     assert!(!chip.record.latch);
 }
 
@@ -142,12 +142,12 @@ fn slip_waits_are_clocks_not_bytes() {
     let mut chip = Bench::m().marked();
     chip.record.configurations[1] = 3;
     let samples = join(&[&on(1, &[0x4B, 0, 0, 5]), &[0; 3], &[0; 8]]);
-    assert_eq!(chip.full(&samples), (0, [8, 24, 3, 8, 0]));
+    assert_eq!(chip.full(&samples), (0, five(8, 24, 3, 8, 0)));
     assert_eq!(chip.driven(), out(1, &[5 * 3 + 1]));
     let mut chip = Bench::m();
     chip.record.mode = 4;
     let samples = join(&[&on(4, &[0x65, 0, 0, 5]), &[0; 2], &[0; 2]]);
-    assert_eq!(chip.full(&samples), (0, [2, 6, 2, 2, 0]));
+    assert_eq!(chip.full(&samples), (0, five(2, 6, 2, 2, 0)));
     assert_eq!(chip.driven(), [0xF0, 0xF5]);
 }
 
@@ -181,11 +181,11 @@ fn slip_a_short_write_keeps_the_latch() {
     chip.record.latch = true;
     let mut samples = on(1, &[0x02, 0, 0, 0]);
     samples.extend([1; 7]);
-    assert_eq!(chip.full(&samples), (4, [8, 24, 0, 7, 0]));
+    assert_eq!(chip.full(&samples), (4, five(8, 24, 0, 7, 0)));
     assert!(chip.record.latch);
     let mut samples = on(1, &[0x87, 0, 8, 0]);
     samples.extend([0; 7]);
-    assert_eq!(chip.full(&samples), (4, [8, 0, 0, 31, 0]));
+    assert_eq!(chip.full(&samples), (4, five(8, 0, 0, 31, 0)));
     assert!(chip.record.latch);
 }
 

@@ -1,8 +1,10 @@
 //! The generator: same seed, same bytes; and it reaches what it should.
 
+use second::answer::Answer;
 use second::compact::{digest, take_tape};
 use second::coverage::{of_bundle, of_probes};
 use second::generate::{bundle, tape};
+use second::parts::Family;
 use second::spoil::{probe_list, probes};
 use second::tape::{run, Ending, Entry};
 use second::wires::collect;
@@ -101,28 +103,34 @@ fn a_bundle_reaches_deep_states() {
                     transactions += 1;
                     clocks += samples.len();
                     longest = longest.max(samples.len());
-                    if before.part == 1 {
-                        // Memory writes that got as far as the protection.
-                        let opcode = collect(samples, before.mode).first().copied();
-                        if opcode == Some(0x02) && matches!(step.answer, 0 | 9) {
-                            let bottom = usize::from(before.status >> 5 & 1);
-                            protected_codes[bottom][usize::from(before.status >> 2 & 7)] += 1;
+                    let (answer, counts) = (step.answer, step.counts);
+                    match step.chip.part.family {
+                        Family::Mram => {
+                            // Memory writes that got as far as the protection.
+                            let opcode = collect(samples, before.mode).first().copied();
+                            let as_far = matches!(answer, Answer::Done | Answer::Protected);
+                            if opcode == Some(0x02) && as_far {
+                                let bottom = usize::from(before.status >> 5 & 1);
+                                protected_codes[bottom][usize::from(before.status >> 2 & 7)] += 1;
+                            }
+                            write_modes[usize::from(before.configurations[3] & 3)] += 1;
+                            let done = answer == Answer::Done;
+                            if done && counts.address == 24 && before.mode == 1 {
+                                waits[counts.wait as usize] += 1;
+                            }
+                            if before.configurations[2] & 0x10 != 0 && counts.data > 0 {
+                                wraps[usize::from(before.configurations[2] & 7)] += 1;
+                            }
+                            slept += u32::from(answer == Answer::Asleep);
                         }
-                        write_modes[usize::from(before.configurations[3] & 3)] += 1;
-                        if step.answer == 0 && step.counts[1] == 24 && before.mode == 1 {
-                            waits[step.counts[2] as usize] += 1;
+                        Family::Psram => {
+                            groups[usize::from(before.mr0 >> 5)] += u32::from(counts.data > 16);
+                            toggled += u32::from(before.toggle && counts.data > 0);
                         }
-                        if before.configurations[2] & 0x10 != 0 && step.counts[3] > 0 {
-                            wraps[usize::from(before.configurations[2] & 7)] += 1;
-                        }
-                        slept += u32::from(step.answer == 6);
-                    } else {
-                        groups[usize::from(before.mr0 >> 5)] += u32::from(step.counts[3] > 16);
-                        toggled += u32::from(before.toggle && step.counts[3] > 0);
                     }
-                    let reset = before.armed && step.answer == 0 && !record.armed;
+                    let reset = before.armed && answer == Answer::Done && !record.armed;
                     resets += u32::from(reset && before.mode != record.mode);
-                    unarmed += u32::from(step.answer == 12);
+                    unarmed += u32::from(answer == Answer::Unarmed);
                 }
                 _ => {}
             }

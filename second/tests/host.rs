@@ -3,8 +3,10 @@
 
 mod common;
 use common::*;
+use second::answer::Answer;
 use second::host::{build, gather};
-use second::table::{look_up, modes, opcodes, Data};
+use second::parts::find;
+use second::table::Data;
 
 /// A request with nothing wrong in it: part M, 03, mode 1.
 #[derive(Clone, Copy)]
@@ -43,11 +45,11 @@ fn ask(request: Request) -> (u8, Vec<u8>) {
         &mut room,
     );
     let told = told as usize;
-    if answer != 0 {
+    if answer != Answer::Done {
         assert_eq!(told, 0);
     }
     assert!(room[told..].iter().all(|&byte| byte == 0xA5));
-    (answer, room[..told].to_vec())
+    (answer.number(), room[..told].to_vec())
 }
 
 #[test]
@@ -534,11 +536,11 @@ fn a_read_ignores_data_and_a_write_the_number() {
 fn take(wires: u32, outputs: &[u8], room: usize) -> (u8, Vec<u8>) {
     let mut bytes = vec![0xA5; room];
     let (answer, told) = gather(wires, outputs, &mut bytes);
-    if answer != 0 {
+    if answer != Answer::Done {
         assert_eq!(told, 0);
     }
     assert!(bytes[told as usize..].iter().all(|&byte| byte == 0xA5));
-    (answer, bytes[..told as usize].to_vec())
+    (answer.number(), bytes[..told as usize].to_vec())
 }
 
 #[test]
@@ -586,9 +588,10 @@ fn gathering_refusals() {
 #[test]
 fn round_trip() {
     for part in [M, P] {
-        for &mode in modes(part) {
-            for opcode in opcodes(part) {
-                let Some(command) = look_up(part, opcode, mode) else {
+        let row = find(part).expect("a part of the table");
+        for &mode in row.modes() {
+            for opcode in row.opcodes() {
+                let Some(command) = row.command(opcode, mode) else {
                     continue;
                 };
                 let mut chip = Bench::new(part, 10).marked();
@@ -632,15 +635,15 @@ fn round_trip() {
                     number as u32,
                     &mut room,
                 );
-                assert_eq!(answer, 0, "{opcode:02X} in mode {mode}");
+                assert_eq!(answer, Answer::Done, "{opcode:02X} in mode {mode}");
                 let (answer, counts) = chip.full(&room[..told as usize]);
                 assert_eq!(answer, 0, "{opcode:02X} in mode {mode}");
-                assert_eq!(counts[4], 0);
+                assert_eq!(counts.rest, 0);
                 let clocks = chip.output.len() - 3;
                 let mut bytes = vec![0; 64];
                 let wires = u32::from(command.rest_wires);
                 let (answer, told) = gather(wires, &chip.output[..clocks], &mut bytes);
-                assert_eq!(answer, 0);
+                assert_eq!(answer, Answer::Done);
                 assert_eq!(told as usize, number);
                 let bytes = &bytes[..number];
                 let place = address as usize;

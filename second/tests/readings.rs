@@ -3,7 +3,8 @@
 
 mod common;
 use common::*;
-use second::device::Record;
+use second::device::{fresh, Record};
+use second::parts;
 
 #[test]
 fn a1_to_a3_opcodes_of_m() {
@@ -64,11 +65,11 @@ fn a6_and_a37_mode_register_of_p() {
     let mut chip = Bench::p();
     chip.record.mr0 = 0x42;
     let samples = join(&[&on(1, &[0xB5, 0, 0, 0]), &[0; 8], &[0; 8], &[0; 3]]);
-    assert_eq!(chip.full(&samples), (0, [8, 24, 8, 8, 3]));
+    assert_eq!(chip.full(&samples), (0, five(8, 24, 8, 8, 3)));
     assert_eq!(chip.driven(), out(1, &[0x42]));
     chip.record.mode = 4;
     let samples = join(&[&on(4, &[0xB5, 0, 0, 0]), &[0; 6], &[0; 2], &[0; 1]]);
-    assert_eq!(chip.full(&samples), (0, [2, 6, 6, 2, 1]));
+    assert_eq!(chip.full(&samples), (0, five(2, 6, 6, 2, 1)));
     assert_eq!(chip.driven(), out(4, &[0x42]));
 }
 
@@ -77,12 +78,12 @@ fn a7_and_a34_identity_of_p() {
     let mut chip = Bench::p();
     for address in [0, 0x123456, 0xFFFFFF] {
         let samples = join(&[&on(1, &join(&[&[0x9F], &at(address)])), &[0; 64]]);
-        assert_eq!(chip.full(&samples), (0, [8, 24, 0, 64, 0]));
+        assert_eq!(chip.full(&samples), (0, five(8, 24, 0, 64, 0)));
         assert_eq!(chip.driven(), out(1, &chip.record.identity));
     }
     let samples = join(&[&on(1, &[0x9F, 0, 0, 0]), &[0; 70]]);
-    assert_eq!(chip.full(&samples), (0, [8, 24, 0, 64, 6]));
-    assert_eq!(chip.full(&on(1, &[0x9F, 0, 0])), (4, [8, 16, 0, 0, 0]));
+    assert_eq!(chip.full(&samples), (0, five(8, 24, 0, 64, 6)));
+    assert_eq!(chip.full(&on(1, &[0x9F, 0, 0])), (4, five(8, 16, 0, 0, 0)));
 }
 
 #[test]
@@ -122,11 +123,11 @@ fn a11_an_unfinished_byte_is_driven() {
     let mut chip = Bench::m().marked();
     chip.memory[5] = 0b1011_0110;
     let samples = join(&[&on(1, &[0x03, 0, 0, 5]), &[0; 5]]);
-    assert_eq!(chip.full(&samples), (0, [8, 24, 0, 5, 0]));
+    assert_eq!(chip.full(&samples), (0, five(8, 24, 0, 5, 0)));
     assert_eq!(chip.driven(), [0x22, 0x20, 0x22, 0x22, 0x20]);
     // Past a fixed size nothing is driven.
     let samples = join(&[&on(1, &[0x14]), &[0; 11]]);
-    assert_eq!(chip.full(&samples), (0, [8, 0, 0, 8, 3]));
+    assert_eq!(chip.full(&samples), (0, five(8, 0, 0, 8, 3)));
     assert_eq!(chip.output[16..19], [0; 3]);
 }
 
@@ -135,11 +136,11 @@ fn a12_command_on_one_wire_rest_on_four() {
     let mut chip = Bench::p();
     let noisy: Vec<u8> = on(1, &[0x38]).iter().map(|s| s | 0x0E).collect();
     let samples = join(&[&noisy, &on(4, &[0, 1, 2, 0xC3, 0x5A])]);
-    assert_eq!(chip.full(&samples), (0, [8, 6, 0, 4, 0]));
+    assert_eq!(chip.full(&samples), (0, five(8, 6, 0, 4, 0)));
     assert_eq!(chip.memory[0x102..0x104], [0xC3, 0x5A]);
     let noisy: Vec<u8> = on(1, &[0xEB]).iter().map(|s| s | 0x0E).collect();
     let samples = join(&[&noisy, &on(4, &[0, 1, 2]), &[9; 6], &[9; 3]]);
-    assert_eq!(chip.full(&samples), (0, [8, 6, 6, 3, 0]));
+    assert_eq!(chip.full(&samples), (0, five(8, 6, 6, 3, 0)));
     assert_eq!(chip.driven(), [0xFC, 0xF3, 0xF5]);
 }
 
@@ -174,15 +175,15 @@ fn a15_waits_of_m() {
                 &vec![0; wait + 8 / mode as usize],
             ]);
             let counts = chip.full(&samples).1;
-            assert_eq!(counts[2], wait as u32);
+            assert_eq!(counts.wait, wait as u32);
             assert_eq!(chip.driven(), out(mode, &[waits]));
         }
         chip.record.mode = 1;
         let samples = join(&[&on(1, &[0x03, 0, 0, 9]), &[0; 8]]);
-        assert_eq!(chip.full(&samples), (0, [8, 24, 0, 8, 0]));
+        assert_eq!(chip.full(&samples), (0, five(8, 24, 0, 8, 0)));
         let samples = join(&[&on(1, &[0x4B, 0, 0, 9]), &[0; 23]]);
         let wait = u32::from(waits);
-        assert_eq!(chip.full(&samples), (0, [8, 24, wait, 23 - wait, 0]));
+        assert_eq!(chip.full(&samples), (0, five(8, 24, wait, 23 - wait, 0)));
         assert_eq!(chip.output[32 + waits as usize] & 0x20, 0x20);
     }
 }
@@ -207,10 +208,10 @@ fn a16_to_a18_register_map() {
         match map.iter().find(|(place, _)| *place == address) {
             Some((_, bytes)) => {
                 let data = bytes.len() as u32 * 8;
-                assert_eq!((answer, counts), (0, [8, 24, 8, data, 70 - data]));
+                assert_eq!((answer, counts), (0, five(8, 24, 8, data, 70 - data)));
                 assert_eq!(chip.driven(), out(1, bytes));
             }
-            None => assert_eq!((answer, counts), (7, [8, 24, 0, 0, 78])),
+            None => assert_eq!((answer, counts), (7, five(8, 24, 0, 0, 78))),
         }
     }
     for bit in 8..24 {
@@ -328,12 +329,14 @@ fn a22_and_a29_bit_1_of_the_status() {
 
 #[test]
 fn a25_fresh_chips() {
-    let m = second::device::fresh(M, 17, [1, 2, 3, 4, 0, 0, 0, 0], [9; 8]);
+    let m = fresh(&parts::M, 17, [1, 2, 3, 4, 0, 0, 0, 0], [9; 8]);
+    assert_eq!((m.part, m.n), (1, 17));
     assert_eq!((m.mode, m.status, m.area_protection, m.mr0), (1, 0, 0, 0));
     assert_eq!(m.configurations, [0, 8, 0, 5]);
     assert_eq!((m.serial, m.unique), ([0; 8], [9; 8]));
     assert!(!(m.latch || m.armed || m.asleep || m.toggle));
-    let p = second::device::fresh(P, 21, [1; 8], [0; 8]);
+    let p = fresh(&parts::P, 21, [1; 8], [0; 8]);
+    assert_eq!((p.part, p.n), (2, 21));
     assert_eq!((p.mode, p.mr0, p.configurations), (1, 0x60, [0; 4]));
     assert!(!(p.latch || p.armed || p.asleep || p.toggle));
 }
@@ -380,7 +383,7 @@ fn a35_and_a36_and_a40_table_of_p() {
             chip.record.mode = mode;
             let wires = if opcode == 0xEB { 4 } else { mode };
             let samples = join(&[&on(mode, &[opcode]), &on(wires, &[0, 0, 0]), &[0; 10]]);
-            assert_eq!(chip.full(&samples).1[2], wait);
+            assert_eq!(chip.full(&samples).1.wait, wait);
         }
     }
     // 35 and 38 are other commands on M.
@@ -595,13 +598,16 @@ fn a45_checks_of_a_power_cycle() {
 fn a46_to_a48_order_and_counts() {
     let mut chip = Bench::m();
     chip.record.asleep = true;
-    assert_eq!(chip.full(&on(1, &[0x0A, 0])), (6, [8, 0, 0, 0, 8]));
+    assert_eq!(chip.full(&on(1, &[0x0A, 0])), (6, five(8, 0, 0, 0, 8)));
     let mut chip = Bench::m();
     assert_eq!(chip.say_and(&[0x99], 1), 11);
-    assert_eq!(chip.full(&on(1, &[0x42, 0, 1, 0])), (7, [8, 24, 0, 0, 0]));
+    assert_eq!(
+        chip.full(&on(1, &[0x42, 0, 1, 0])),
+        (7, five(8, 24, 0, 0, 0))
+    );
     // A read cut in its wait.
     let samples = join(&[&on(1, &[0x65, 0, 0, 0]), &[0; 3]]);
-    assert_eq!(chip.full(&samples), (0, [8, 24, 3, 0, 0]));
+    assert_eq!(chip.full(&samples), (0, five(8, 24, 3, 0, 0)));
     assert!(chip.driven().is_empty());
 }
 

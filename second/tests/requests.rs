@@ -3,6 +3,7 @@
 
 mod common;
 use common::*;
+use second::answer::Answer;
 use second::ask::{request_list, requests};
 use second::compact::digest;
 use second::coverage::of_requests;
@@ -35,6 +36,16 @@ fn good() -> Request {
         room: 40,
         data: Vec::new(),
     }
+}
+
+/// The number of the answer.
+fn answer(request: &Request) -> u8 {
+    request.run().answer.number()
+}
+
+/// The numbers of all faults.
+fn fault_numbers(request: &Request) -> Vec<u8> {
+    faults(request).into_iter().map(Answer::number).collect()
 }
 
 #[test]
@@ -158,9 +169,9 @@ fn cut_files() {
 #[test]
 fn faults_by_hand() {
     let check = |request: Request, expected: &[u8]| {
-        assert_eq!(faults(&request), expected, "{request:?}");
+        assert_eq!(fault_numbers(&request), expected, "{request:?}");
         let first = expected.first().copied().unwrap_or(0);
-        assert_eq!(request.run().answer, first, "{request:?}");
+        assert_eq!(answer(&request), first, "{request:?}");
     };
     check(good(), &[]);
     let wrong = Request {
@@ -251,10 +262,10 @@ fn the_first_fault_is_the_answer() {
     for seed in 0..6 {
         for request in request_list(seed, 1000) {
             let outcome = request.run();
-            let first = faults(&request).first().copied().unwrap_or(0);
+            let first = faults(&request).first().copied().unwrap_or(Answer::Done);
             assert_eq!(outcome.answer, first, "{request:?}");
             let told = outcome.told as usize;
-            assert!(outcome.answer == 0 || told == 0);
+            assert!(outcome.answer == Answer::Done || told == 0);
             assert!(outcome.buffer[told..].iter().all(|&byte| byte == 0xA5));
         }
     }
@@ -266,7 +277,8 @@ fn pairs_of_refusals() {
     let mut expected = Vec::new();
     for (place, &earlier) in OF_BUILD.iter().enumerate() {
         for &later in &OF_BUILD[place + 1..] {
-            if (earlier, later) != (10, 11) && (earlier, later) != (4, 11) {
+            let numbers = (earlier.number(), later.number());
+            if numbers != (10, 11) && numbers != (4, 11) {
                 expected.push((earlier, later));
             }
         }
@@ -324,7 +336,7 @@ fn requests_meet_the_edges() {
             command(r).is_some_and(|c| c.address) && r.address == address
         });
         some(20, &|r| {
-            command(r).is_some_and(|c| !c.address) && r.address == address && r.run().answer == 0
+            command(r).is_some_and(|c| !c.address) && r.address == address && answer(r) == 0
         });
     }
     for configuration2 in [0x0F, 0x10, 0xFF] {
@@ -332,7 +344,7 @@ fn requests_meet_the_edges() {
             command(r).is_some() && r.opcode == 0x4B && r.configuration2 == configuration2
         });
         some(20, &|r| {
-            r.opcode != 0x4B && r.configuration2 == configuration2 && r.run().answer == 0
+            r.opcode != 0x4B && r.configuration2 == configuration2 && answer(r) == 0
         });
     }
     // Bytes about the fixed size, and what is ignored.
@@ -350,8 +362,8 @@ fn requests_meet_the_edges() {
             _ => false,
         });
     }
-    let answered = |r: &Request, answer: u8, data: Data| {
-        command(r).is_some_and(|c| c.data == data) && r.run().answer == answer
+    let answered = |r: &Request, number: u8, data: Data| {
+        command(r).is_some_and(|c| c.data == data) && answer(r) == number
     };
     some(3, &|r| answered(r, 0, Data::ReadMapped) && r.number == 8);
     some(3, &|r| answered(r, 11, Data::ReadMapped) && r.number == 9);
@@ -376,27 +388,25 @@ fn requests_meet_the_edges() {
     });
     // Room exact, one more, one short, none.
     let told = |r: &Request| r.run().told as usize;
-    some(200, &|r| {
-        builds(r) && r.run().answer == 0 && told(r) == r.room
-    });
+    some(200, &|r| builds(r) && answer(r) == 0 && told(r) == r.room);
     some(100, &|r| {
-        builds(r) && r.run().answer == 0 && told(r) + 1 == r.room
+        builds(r) && answer(r) == 0 && told(r) + 1 == r.room
     });
     let longer = |r: &Request| Request {
         room: r.room + 1,
         ..r.clone()
     };
     some(20, &|r| {
-        builds(r) && r.run().answer == 1 && longer(r).run().answer == 0
+        builds(r) && answer(r) == 1 && answer(&longer(r)) == 0
     });
-    some(20, &|r| builds(r) && r.run().answer == 1 && r.room == 0);
+    some(20, &|r| builds(r) && answer(r) == 1 && r.room == 0);
     some(50, &|r| {
-        gathers(r) && r.run().answer == 0 && told(r) == r.room && r.room > 0
+        gathers(r) && answer(r) == 0 && told(r) == r.room && r.room > 0
     });
     some(20, &|r| {
-        gathers(r) && r.run().answer == 1 && longer(r).run().answer == 0
+        gathers(r) && answer(r) == 1 && answer(&longer(r)) == 0
     });
-    some(10, &|r| gathers(r) && r.run().answer == 1 && r.room == 0);
+    some(10, &|r| gathers(r) && answer(r) == 1 && r.room == 0);
 }
 
 /// About the most clocks, on every number of wires, with room enough.
@@ -420,9 +430,7 @@ fn requests_about_the_most_clocks() {
             .collect();
         assert!((2..30).contains(&large.len()));
         assert!(large.iter().any(|r| r.run().told == most));
-        assert!(large
-            .iter()
-            .any(|r| r.room >= 65_536 && r.run().answer == 1));
+        assert!(large.iter().any(|r| r.room >= 65_536 && answer(r) == 1));
         for r in large {
             assert!(r.room < 66_000);
         }
@@ -440,7 +448,7 @@ fn gatherings_meet_the_edges() {
             .iter()
             .filter(|r| r.call == Call::Gather && r.part_or_wires == wires)
             .collect();
-        let done = || mine.iter().filter(|r| r.run().answer == 0);
+        let done = || mine.iter().filter(|r| answer(r) == 0);
         let driven = |r: &Request| r.data.iter().filter(|&&sample| sample != 0).count();
         assert!(done().count() > 50);
         assert!(done().filter(|r| driven(r) % per_byte != 0).count() > 5);
@@ -459,7 +467,7 @@ fn gatherings_meet_the_edges() {
                 (_, 0) | (1, 0x20 | 0x22) | (2, 0x30..=0x33) | (4, 0xF0..)
             )
         };
-        let refused = || mine.iter().filter(|r| r.run().answer == 2);
+        let refused = || mine.iter().filter(|r| answer(r) == 2);
         assert!(refused().filter(|r| stray(r.data.first())).count() > 3);
         assert!(refused().filter(|r| stray(r.data.last())).count() > 3);
     }

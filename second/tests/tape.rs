@@ -3,6 +3,7 @@
 mod common;
 use common::*;
 use second::compact::{compact_text, digest, hex};
+use second::parts;
 use second::probe::{probe_text, Call, Probe};
 use second::tape::{bench, Entry, Next, Reader};
 
@@ -147,7 +148,8 @@ fn longest_tape() {
 fn the_reader_stays_at_a_bad_record() {
     let tape = join(&[&fresh_m(), &[9]]);
     let mut reader = Reader::new(&tape);
-    assert_eq!(reader.take(), Next::Entry(Entry::Fresh { part: 1, n: 10 }));
+    let part = &parts::M;
+    assert_eq!(reader.take(), Next::Entry(Entry::Fresh { part, n: 10 }));
     assert_eq!(reader.take(), Next::Bad(6));
     assert_eq!(reader.take(), Next::Bad(6));
     let good = fresh_m();

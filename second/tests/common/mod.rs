@@ -2,7 +2,9 @@
 //! by the library, so that the two check each other.
 #![allow(dead_code)]
 
-use second::device::{fresh, power_cycle, transact, Counts, Record};
+use second::answer::{Answer, Class, Counts};
+use second::device::{fresh, power_cycle, transact, Record};
+use second::parts::find;
 
 pub const M: u8 = 1;
 pub const P: u8 = 2;
@@ -41,6 +43,17 @@ pub fn out(wires: u8, bytes: &[u8]) -> Vec<u8> {
         .collect()
 }
 
+/// The five counts in the paper's order.
+pub fn five(command: u32, address: u32, wait: u32, data: u32, rest: u32) -> Counts {
+    Counts {
+        command,
+        address,
+        wait,
+        data,
+        rest,
+    }
+}
+
 pub fn join(pieces: &[&[u8]]) -> Vec<u8> {
     pieces.concat()
 }
@@ -51,25 +64,28 @@ pub struct Bench {
     pub area: Vec<u8>,
     /// Output of the last transaction, with three spare bytes at the end.
     pub output: Vec<u8>,
+    /// Answer of the last transaction.
+    pub answer: Answer,
 }
 
 impl Bench {
     pub fn new(part: u8, n: u8) -> Bench {
-        let identity = if part == M {
-            [0xE6, 0x01, 0x15, 0x01, 0, 0, 0, 0]
-        } else {
-            [0x0D, 0x5D, 0x52, 0x33, 0x44, 0x55, 0x66, 0x77]
+        let (identity, unique, area_bytes) = match part {
+            M => (
+                [0xE6, 0x01, 0x15, 0x01, 0, 0, 0, 0],
+                [0x81, 0x72, 0x63, 0x54, 0x45, 0x36, 0x27, 0x18],
+                256,
+            ),
+            P => ([0x0D, 0x5D, 0x52, 0x33, 0x44, 0x55, 0x66, 0x77], [0; 8], 0),
+            _ => panic!("no such part"),
         };
-        let unique = if part == M {
-            [0x81, 0x72, 0x63, 0x54, 0x45, 0x36, 0x27, 0x18]
-        } else {
-            [0; 8]
-        };
+        let row = find(part).expect("a part of the table");
         Bench {
-            record: fresh(part, n, identity, unique),
+            record: fresh(row, n, identity, unique),
             memory: vec![0; 1 << n],
-            area: vec![0; if part == M { 256 } else { 0 }],
+            area: vec![0; area_bytes],
             output: Vec::new(),
+            answer: Answer::Done,
         }
     }
 
@@ -94,7 +110,7 @@ impl Bench {
 
     pub fn full(&mut self, samples: &[u8]) -> (u8, Counts) {
         self.output = vec![0xA5; samples.len() + 3];
-        let result = transact(
+        let (answer, counts) = transact(
             &mut self.record,
             &mut self.memory,
             &mut self.area,
@@ -102,17 +118,21 @@ impl Bench {
             &mut self.output,
         );
         assert_eq!(self.output[samples.len()..], [0xA5; 3], "spare output");
-        let (answer, counts) = result;
-        if answer == 0 || answer >= 4 {
-            assert_eq!(counts.iter().sum::<u32>() as usize, samples.len());
-        } else {
-            assert_eq!(counts, [0; 5]);
-            assert!(self.output.iter().all(|&byte| byte == 0xA5));
+        let all_clocks = counts.command + counts.address + counts.wait + counts.data + counts.rest;
+        let undriven = self.output[..samples.len()].iter().all(|&byte| byte == 0);
+        match answer.class() {
+            Class::Done => assert_eq!(all_clocks as usize, samples.len()),
+            Class::Declined => {
+                assert_eq!(all_clocks as usize, samples.len());
+                assert!(undriven);
+            }
+            Class::Refused => {
+                assert_eq!(counts, five(0, 0, 0, 0, 0));
+                assert!(self.output.iter().all(|&byte| byte == 0xA5));
+            }
         }
-        if answer >= 4 {
-            assert!(self.output[..samples.len()].iter().all(|&byte| byte == 0));
-        }
-        result
+        self.answer = answer;
+        (answer.number(), counts)
     }
 
     pub fn send(&mut self, samples: &[u8]) -> u8 {
@@ -154,6 +174,8 @@ impl Bench {
     }
 
     pub fn cycle(&mut self) -> u8 {
-        power_cycle(&mut self.record, &mut self.memory, &mut self.area).0
+        let (answer, counts) = power_cycle(&mut self.record, &mut self.memory, &mut self.area);
+        assert_eq!(counts, five(0, 0, 0, 0, 0));
+        answer.number()
     }
 }
