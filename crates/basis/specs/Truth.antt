@@ -1,9 +1,9 @@
 -- What a computed test tells of its parts.
 -- Assumes nothing.
-use mathlib.Core.Path.{_≡_, refl, sym, ap}
+use mathlib.Core.Path.{_≡_, refl, sym, ap, _∙_}
 use Prim.Native.Nat.{ℕ}
 use native.Mathlib.Omega.{arith}
-use mathlib.Core.Bool.{Bool, true, false, cond, _&&_, _||_}
+use mathlib.Core.Bool.{Bool, true, false, cond, not, _&&_, _||_}
 use lib.Dec.{T}
 
 pub both : (a b : Bool) → T (a && b) → T a × T b
@@ -34,3 +34,11 @@ or-right false b e = e
 pub neither : (a b : Bool) → (a || b) ≡ false → (a ≡ false) × (b ≡ false)
 neither true b e = untrue (sym e)
 neither false b e = (refl, e)
+
+-- what is not so, and what is
+pub not-untrue : (a : Bool) → not a ≡ false → a ≡ true
+not-untrue true e = refl
+not-untrue false e = untrue (sym e)
+
+pub never : {Q : Type 0} (b : Bool) → b ≡ false → b ≡ true → Q
+never b n e = untrue (sym n ∙ e)

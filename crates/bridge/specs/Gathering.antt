@@ -9,7 +9,6 @@ use mathlib.Core.List.{List, [], _∷_, _++_}
 use lib.ListN.{length, take, drop, length-take, length-drop, take-append-drop}
 use borrow.Author.Tests.{eq-eqb, ne-eqb}
 use Rattle.units.specs.declared.Clocks.{Clocks}
-use Rattle.units.specs.declared.Bytes.{Bytes}
 use Rattle.units.specs.declared.Wires.{Wires}
 use Rattle.units.specs.declared.Wires.the-variants.{One, Two, Four}
 use Rattle.units.specs.Units.{clocks, bytes, perByte}
@@ -17,8 +16,9 @@ use Rattle.units.specs.Laws.{perByte-pos}
 use Rattle.wires.specs.Bits.{shiftOf, gatherFrom, gather}
 use Rattle.wires.specs.Laws.{gather-byte}
 use Rattle.paper.specs.Reading.{bytesIn, dataBytes}
-use Rattle.paper.specs.Storing.{Taken, takeAll}
-use Rattle.clocking.specs.Machine.{Held, lastAt, held}
+use Rattle.paper.specs.Storing.{takeAll}
+use Rattle.words.specs.Words.{Taken, Take, Held}
+use Rattle.clocking.specs.Machine.{lastAt, held}
 use Rattle.bridge.specs.Stage.{carried}
 
 -- clock i of byte j, counted from the first data clock
@@ -47,7 +47,7 @@ carried-append f (x ∷ xs) ys t s =
     let e : t + 1 + length xs ≡ t + suc (length xs) = omega arith in
     carried-append f xs ys (t + 1) (f (clocks t) s x) ∙ ap (λ (m : ℕ). carried f m (carried f (t + 1) (f (clocks t) s x) xs) ys) e
 
-module _ (w : Wires) (f : Bytes → ℕ → Taken → Taken) where
+module _ (w : Wires) (f : Take) where
   abbrev from : ℕ → ℕ → ℕ → Taken → List ℕ → Held
   from j i number t xs = carried (held w f) (clockOf w j i) (record { number = number; taken = t }) xs
 

@@ -13,10 +13,11 @@ use borrow.Author.Tests.{lt-leb}
 use Rattle.basis.specs.Truth.{cond-same}
 use Rattle.units.specs.declared.Clocks.{Clocks}
 use Rattle.units.specs.declared.Wires.{Wires}
-use Rattle.units.specs.Units.{clocks, bytes, perByte, atMost, byteClocks}
+use Rattle.units.specs.Units.{clocks, perByte, atMost, byteClocks}
 use Rattle.units.specs.Laws.{perByte-pos}
 use Rattle.wires.specs.Bits.{shiftOf, gatherFrom, gather}
 use Rattle.wires.specs.Laws.{gather-byte}
+use Rattle.parts.specs.Parts.{familyOf}
 use Rattle.opcodes.specs.declared.Kind.{Kind}
 use Rattle.opcodes.specs.declared.Kind.the-variants.{Unknown}
 use Rattle.opcodes.specs.Kinds.{kindOf}
@@ -24,64 +25,117 @@ use Rattle.commands.specs.declared.plans.Body.{Body}
 use Rattle.commands.specs.declared.plans.Body.the-variants.{Nothing, FixedRead, AnyRead, FixedWrite, AnyWrite}
 use Rattle.counts.specs.declared.Counts.{Counts}
 use Rattle.counts.specs.Counts.{counted}
+use Rattle.progress.specs.declared.Phase.{Phase}
+use Rattle.progress.specs.declared.Phase.the-variants.{Command, Address, Wait, Data, Rest}
+use Rattle.progress.specs.declared.Tally.{Tally}
+use Rattle.progress.specs.declared.Progress.{Progress}
+use Rattle.progress.specs.Progress.{nothingYet, entered, onward, beginOf}
 use Rattle.record.specs.declared.Device.{Device}
 use Rattle.record.specs.declared.Setting.{Setting}
-use Rattle.record.specs.Devices.{settingOf}
+use Rattle.record.specs.declared.Aim.{Aim}
+use Rattle.record.specs.Devices.{settingOf, aimOf}
 use Rattle.paper.specs.InForce.{commandClocks, wiresFor, addressClocks, waitClocks, bodyFor}
 use Rattle.paper.specs.Reading.{first, after, many, kindRead, addressRead, dataPart, restPart}
-use Rattle.paper.specs.Storing.{Lent, Taken, nothingTaken, takeByte}
+use Rattle.paper.specs.Storing.{Lent}
 use Rattle.paper.specs.Driving.{drivenAt, along}
+use Rattle.paper.specs.Answers.{Facts}
 use Rattle.paper.specs.Transaction.{undriven}
-use Rattle.clocking.specs.declared.Phase.{Phase}
-use Rattle.clocking.specs.declared.Phase.the-variants.{Command, Address, Wait, Data, Rest}
-use Rattle.clocking.specs.declared.Progress.{Progress}
-use Rattle.clocking.specs.Machine.{at, beginOf, fullAt, toData, toWait, toAddress, commandStep, addressStep, waitStep, heldBack, holds, byteIn, Held, lastAt, held, Run, ran, dataStep, stepOf, driveOf, runOf, outsOf}
-use Rattle.theorems.specs.Driven.{along-zero}
+use Rattle.paper.specs.Laws.{along-zero}
+use Rattle.words.specs.Words.{Held, Run, begun}
+use Rattle.clocking.specs.Machine.{termsOf, fullAt, toData, toWait, toAddress, commandStep, addressStep, waitStep, holds, dataHeld, dataStep, stepOf, driveOf, runOf, outsOf}
 use Rattle.bridge.specs.Stage.{Seen, seen, behind, carried, stage, cut-first, cut-body}
+use Rattle.bridge.specs.Taking.{tickFor}
 
 abbrev none : Clocks
 none = clocks 0
 
-abbrev pub see : Kind → ℕ → Counts → Taken → List ℕ → Seen
-see k a c t o = record { facts = record { kind = k; address = a; counts = c; taken = t }; out = o }
+-- what has been read at the start of a phase, and what is lent
+pub record Point : Type 0 where
+  pub facts : Facts
+  pub lent : Lent
 
--- the machine in a phase, with what the bytes so far leave
-abbrev inside : Phase → Kind → ℕ → ℕ → Counts → Taken → Run
-inside phase k a number c t = ran (at phase k a number c (t .value) (t .any)) t
+-- the point with the clocks of a phase, and what the phase has told
+abbrev counts : Point → Counts
+counts q = q .facts .tally .counts
+
+abbrev point : Kind → ℕ → Counts → Point → Point
+point k a c q = record { facts = record { kind = k; address = a; tally = record { counts = c; value = q .facts .tally .value } }; lent = q .lent }
+
+abbrev named : Kind → Clocks → Point → Point
+named k c q = point k 0 (counted c none none none none) q
+
+abbrev placed : ℕ → Clocks → Point → Point
+placed a c q = point (q .facts .kind) a (counted (counts q .command) c none none none) q
+
+abbrev waited : Clocks → Point → Point
+waited c q = point (q .facts .kind) (q .facts .address) (counted (counts q .command) (counts q .address) c none none) q
+
+-- the machine, with a progress made from the kind, the address and the tally of a point
+abbrev entering : (Kind → ℕ → Tally → Progress) → Point → Run
+entering f q = record { progress = f (q .facts .kind) (q .facts .address) (q .facts .tally); lent = q .lent }
+
+-- nothing more comes
+abbrev ends : Point → Seen
+ends q = record { facts = q .facts; lent = q .lent; out = [] }
 
 -- a choice of progress is a choice of runs
-chosen : (b : Bool) (p q : Progress) (t : Taken) → ran (cond b p q) t ≡ cond b (ran p t) (ran q t)
-chosen true p q t = refl
-chosen false p q t = refl
+chosen : (b : Bool) (p q : Progress) (l : Lent) → record { progress = cond b p q; lent = l } ≡ cond {A = Run} b (record { progress = p; lent = l }) (record { progress = q; lent = l })
+chosen true p q l = refl
+chosen false p q l = refl
 
--- ---- what the paper reads from the start of each phase on, after the counts of those before
-abbrev pub bytesTaken : Device → Kind → ℕ → Taken → List ℕ → Taken
-bytesTaken d k a t xs =
-    let s = settingOf d in
-    carried (held (wiresFor s k) (byteIn s (d .volatile .latch) k a)) 0 (record { number = 0; taken = t }) xs .taken
+-- ---- what the paper reads from the start of each phase on
+module _ (d : Device) where
+  abbrev s : Setting
+  s = settingOf d
 
-unfoldable pub dataOn : Device → Kind → ℕ → Clocks → Clocks → Clocks → Taken → List ℕ → Seen
-dataOn d k a c₁ c₂ c₃ t xs =
-    let s = settingOf d in
-    let b = bodyFor s k a in
-    let p = dataPart b (wiresFor s k) xs in
-    let r = restPart b (wiresFor s k) xs in
-    see k a (counted c₁ c₂ c₃ (many p) (many r)) (bytesTaken d k a t p) (along (drivenAt b d k a (t .lent)) 0 p ++ undriven r)
+  abbrev pub aim : Point → Aim
+  aim q = aimOf s (q .facts .kind) (q .facts .address)
 
-unfoldable pub waitOn : Device → Kind → ℕ → Clocks → Clocks → Taken → List ℕ → Seen
-waitOn d k a c₁ c₂ t xs =
-    let c = waitClocks (settingOf d) k a in
-    behind (undriven (first c xs)) (dataOn d k a c₁ c₂ (many (first c xs)) t (after c xs))
+  abbrev pub body : Point → Body
+  body q = bodyFor s (q .facts .kind) (q .facts .address)
 
-unfoldable pub addressOn : Device → Kind → Clocks → Taken → List ℕ → Seen
-addressOn d k c₁ t xs =
-    let c = addressClocks (settingOf d) k in
-    behind (undriven (first c xs)) (waitOn d k (addressRead (settingOf d) k (first c xs)) c₁ (many (first c xs)) t (after c xs))
+  abbrev pub wires : Point → Wires
+  wires q = wiresFor s (q .facts .kind)
 
-unfoldable pub commandOn : Device → Taken → List ℕ → Seen
-commandOn d t xs =
-    let c = commandClocks (settingOf d) in
-    behind (undriven (first c xs)) (addressOn d (kindRead (settingOf d) (first c xs)) (many (first c xs)) t (after c xs))
+  abbrev pub starting : Point → Held
+  starting q = record { number = 0; taken = record { lent = q .lent; value = q .facts .tally .value } }
+
+  abbrev pub tick : Point → Clocks → Held → ℕ → Held
+  tick q = tickFor (body q) (wires q) (holds (termsOf d) (q .facts .kind)) (aim q)
+
+  -- what is seen after so many data clocks, and then so many of the rest
+  abbrev past : Point → Clocks → Held → Clocks → List ℕ → Seen
+  past q c h r o =
+      record {
+        facts = record {
+          kind = q .facts .kind;
+          address = q .facts .address;
+          tally = record { counts = counted (counts q .command) (counts q .address) (counts q .wait) c r; value = h .taken .value };
+        };
+        lent = h .taken .lent;
+        out = o;
+      }
+
+  unfoldable pub dataOn : Point → List ℕ → Seen
+  dataOn q xs =
+      let p = dataPart (body q) (wires q) xs in
+      let r = restPart (body q) (wires q) xs in
+      past q (many p) (carried (tick q) 0 (starting q) p) (many r) (along (drivenAt (body q) d (q .facts .kind) (q .facts .address) (q .lent)) 0 p ++ undriven r)
+
+  unfoldable pub waitOn : Point → List ℕ → Seen
+  waitOn q xs =
+      let c = waitClocks s (q .facts .kind) (q .facts .address) in
+      behind (undriven (first c xs)) (dataOn (waited (many (first c xs)) q) (after c xs))
+
+  unfoldable pub addressOn : Point → List ℕ → Seen
+  addressOn q xs =
+      let c = addressClocks s (q .facts .kind) in
+      behind (undriven (first c xs)) (waitOn (placed (addressRead s (q .facts .kind) (first c xs)) (many (first c xs)) q) (after c xs))
+
+  unfoldable pub commandOn : Point → List ℕ → Seen
+  commandOn q xs =
+      let c = commandClocks s in
+      behind (undriven (first c xs)) (addressOn (named (kindRead s (first c xs)) (many (first c xs)) q) (after c xs))
 
 -- ---- no clocks left
 pub data-nil : (b : Body) (w : Wires) → dataPart b w [] ≡ []
@@ -98,108 +152,103 @@ rest-nil AnyRead w = refl
 rest-nil (FixedWrite b) w = drop-nil (b .0 * perByte w)
 rest-nil AnyWrite w = refl
 
-module _ (d : Device) (k : Kind) (t : Taken) where
-  data-on-nil : (a : ℕ) (c₁ c₂ c₃ : Clocks) → dataOn d k a c₁ c₂ c₃ t [] ≡ see k a (counted c₁ c₂ c₃ none none) t []
+module _ (d : Device) where
+  data-on-nil : (q : Point) → dataOn d q [] ≡ ends (waited (counts q .wait) q)
   unfolding dataOn along carried
-  data-on-nil a c₁ c₂ c₃ =
-      let s = settingOf d in rw (data-nil (bodyFor s k a) (wiresFor s k), rest-nil (bodyFor s k a) (wiresFor s k))
+  data-on-nil q = rw (data-nil (body d q) (wires d q), rest-nil (body d q) (wires d q))
 
-  wait-on-nil : (a : ℕ) (c₁ c₂ : Clocks) → waitOn d k a c₁ c₂ t [] ≡ see k a (counted c₁ c₂ none none none) t []
+  wait-on-nil : (q : Point) → waitOn d q [] ≡ ends (waited none q)
   unfolding waitOn
-  wait-on-nil a c₁ c₂ =
-      let n = waitClocks (settingOf d) k a .0 in rw (take-nil n, drop-nil n, data-on-nil a c₁ c₂ none)
+  wait-on-nil q =
+      let n = waitClocks (settingOf d) (q .facts .kind) (q .facts .address) .0 in rw (take-nil n, drop-nil n) (ap (behind []) (data-on-nil (waited none q)))
 
   -- no samples spell address 0, enough of them or not
-  read-nil : addressRead (settingOf d) k [] ≡ 0
+  read-nil : (k : Kind) → addressRead (settingOf d) k [] ≡ 0
   unfolding addressRead gatherFrom
-  read-nil = cond-same (leb (addressClocks (settingOf d) k .0) 0) 0
+  read-nil k = cond-same (leb (addressClocks (settingOf d) k .0) 0) 0
 
-  address-on-nil : (c₁ : Clocks) → addressOn d k c₁ t [] ≡ see k 0 (counted c₁ none none none none) t []
+  address-on-nil : (q : Point) → addressOn d q [] ≡ ends (placed 0 none q)
   unfolding addressOn
-  address-on-nil c₁ =
-      let n = addressClocks (settingOf d) k .0 in
-      rw (take-nil n, drop-nil n, wait-on-nil (addressRead (settingOf d) k []) c₁ none, read-nil)
+  address-on-nil q =
+      let n = addressClocks (settingOf d) (q .facts .kind) .0 in
+      rw (take-nil n, drop-nil n, read-nil (q .facts .kind)) (ap (behind []) (wait-on-nil (placed 0 none q)))
 
 -- ---- the rest: every clock is counted and drives nothing
-rest-law : (d : Device) (k : Kind) (a : ℕ) (c₁ c₂ c₃ c₄ : Clocks) (n : ℕ) (t : Taken) (xs : List ℕ)
-    → seen d (inside Rest k a 0 (counted c₁ c₂ c₃ c₄ (clocks n)) t) xs ≡ see k a (counted c₁ c₂ c₃ c₄ (clocks (n + length xs))) t (undriven xs)
-unfolding runOf outsOf stepOf driveOf
-rest-law d k a c₁ c₂ c₃ c₄ n t [] = rw add-zero
-rest-law d k a c₁ c₂ c₃ c₄ n t (x ∷ xs) =
-    let e : n + 1 + length xs ≡ n + suc (length xs) = omega arith in
-    ap (behind (0 ∷ [])) (rest-law d k a c₁ c₂ c₃ c₄ (n + 1) t xs)
-    ∙ ap (λ (m : ℕ). see k a (counted c₁ c₂ c₃ c₄ (clocks m)) t (undriven (x ∷ xs))) e
+module _ (d : Device) (q : Point) (c : Clocks) (h : Held) where
+  abbrev resting : ℕ → Run
+  resting n =
+      entering (entered Rest)
+      (record {
+        facts = record {
+          kind = q .facts .kind;
+          address = q .facts .address;
+          tally = record { counts = counted (counts q .command) (counts q .address) (counts q .wait) c (clocks n); value = h .taken .value };
+        };
+        lent = h .taken .lent;
+      })
+
+  rest-law : (n : ℕ) (xs : List ℕ) → seen d (resting n) xs ≡ past d q c h (clocks (n + length xs)) (undriven xs)
+  unfolding runOf outsOf stepOf driveOf
+  rest-law n [] = rw add-zero
+  rest-law n (x ∷ xs) =
+      let e : n + 1 + length xs ≡ n + suc (length xs) = omega arith in
+      ap (behind (0 ∷ [])) (rest-law (n + 1) xs) ∙ ap (λ (m : ℕ). past d q c h (clocks m) (undriven (x ∷ xs))) e
 
 -- ---- data
--- a byte that stores nothing leaves what is lent as it was, held back or not, last clock or not
-same-lent : (last hold : Bool) (t : Taken) (m n : ℕ)
-    → cond {A = Held} last (record { number = m; taken = heldBack hold t t }) (record { number = n; taken = t }) .taken .lent ≡ t .lent
-same-lent true true t m n = refl
-same-lent true false t m n = refl
-same-lent false hold t m n = refl
-
-abbrev byteFor : Body → Device → Kind → ℕ → Clocks → Held → ℕ → Held
-byteFor b d k a =
-    let s = settingOf d in
-    let latch = d .volatile .latch in
-    held (wiresFor s k) (λ i x t. heldBack (holds s latch k) t (takeByte b s k a i x t))
-
 -- what a read drives does not change while it goes on
-drives-same : (b : Body) (d : Device) (k : Kind) (a : ℕ) (c : Clocks) (h : Held) (x : ℕ) (u : Clocks)
-    → drivenAt b d k a (byteFor b d k a c h x .taken .lent) u ≡ drivenAt b d k a (h .taken .lent) u
-unfolding held
-drives-same Nothing d k a c h x u = refl
-drives-same (FixedWrite m) d k a c h x u = refl
-drives-same AnyWrite d k a c h x u = refl
-drives-same (FixedRead m) d k a c h x u =
-    let w = wiresFor (settingOf d) k in
-    ap (λ (l : Lent). drivenAt (FixedRead m) d k a l u) (same-lent (lastAt w c) (holds (settingOf d) (d .volatile .latch) k) (h .taken) 0 (shiftOf w (h .number) x))
-drives-same AnyRead d k a c h x u =
-    let w = wiresFor (settingOf d) k in
-    ap (λ (l : Lent). drivenAt AnyRead d k a l u) (same-lent (lastAt w c) (holds (settingOf d) (d .volatile .latch) k) (h .taken) 0 (shiftOf w (h .number) x))
+drives-same : (b : Body) (d : Device) (q : Point) (c : Clocks) (h : Held) (x : ℕ) (u : Clocks)
+    → let k = q .facts .kind in let a = q .facts .address in
+    drivenAt b d k a (tickFor b (wires d q) (holds (termsOf d) k) (aim d q) c h x .taken .lent) u ≡ drivenAt b d k a (h .taken .lent) u
+drives-same Nothing d q c h x u = refl
+drives-same (FixedRead m) d q c h x u = refl
+drives-same AnyRead d q c h x u = refl
+drives-same (FixedWrite m) d q c h x u = refl
+drives-same AnyWrite d q c h x u = refl
 
-data-law : (d : Device) (k : Kind) (a : ℕ) (c₁ c₂ c₃ : Clocks) (t : Taken) (xs : List ℕ)
-    → seen d (ran (toData (settingOf d) k a (counted c₁ c₂ c₃ none none) (t .value) (t .any)) t) xs ≡ dataOn d k a c₁ c₂ c₃ t xs
-unfolding toData dataOn dataStep stepOf driveOf
-data-law d k a c₁ c₂ c₃ t xs =
-    let s = settingOf d in
-    let b = bodyFor s k a in
-    let w = wiresFor s k in
-    ap (λ (r : Run). seen d r xs)
-    (chosen (fullAt b w none) (at Rest k a 0 (counted c₁ c₂ c₃ none none) (t .value) (t .any)) (at Data k a 0 (counted c₁ c₂ c₃ none none) (t .value) (t .any)) t)
+data-law : (d : Device) (q : Point) (xs : List ℕ) → seen d (entering (toData (settingOf d)) (waited (counts q .wait) q)) xs ≡ dataOn d q xs
+unfolding toData dataOn dataStep dataHeld stepOf driveOf
+data-law d q xs =
+    let k = q .facts .kind in
+    let a = q .facts .address in
+    let b = body d q in
+    let w = wires d q in
+    let t : Clocks → Held → Tally = λ c h. record { counts = counted (counts q .command) (counts q .address) (counts q .wait) c none; value = h .taken .value } in
+    let rest : Clocks → Held → Progress = λ c h. entered Rest k a (t c h) in
+    let go : Clocks → Held → Progress = λ c h. record { phase = Data; kind = k; address = a; number = h .number; tally = t c h } in
+    let same = drivenAt b d k a (q .lent) in
+    ap (λ (r : Run). seen d r xs) (chosen (fullAt b w none) (rest none (starting d q)) (go none (starting d q)) (q .lent))
     ∙ stage d (fullAt b w)
-    (λ c h. inside Rest k a 0 (counted c₁ c₂ c₃ c none) (h .taken))
-    (λ c h. inside Data k a (h .number) (counted c₁ c₂ c₃ c none) (h .taken))
-    (byteFor b d k a)
-    (drivenAt b d k a (t .lent))
-    (λ h. (u : Clocks) → drivenAt b d k a (h .taken .lent) u ≡ drivenAt b d k a (t .lent) u)
-    (λ n h x. refl)
-    (λ n h same. same (clocks n))
-    (λ n h x same u. drives-same b d k a (clocks n) h x u ∙ same u)
-    (λ c h ys. see k a (counted c₁ c₂ c₃ c (many ys)) (h .taken) (undriven ys))
-    (λ c h ys e. rest-law d k a c₁ c₂ c₃ c 0 (h .taken) ys ∙ rw zero-add)
+    (λ c h. record { progress = rest c h; lent = h .taken .lent })
+    (λ c h. record { progress = go c h; lent = h .taken .lent })
+    (tick d q)
+    same
+    (λ h. (u : Clocks) → drivenAt b d k a (h .taken .lent) u ≡ same u)
+    (λ n h x. chosen (fullAt b w (clocks (n + 1))) (rest (clocks (n + 1)) (tick d q (clocks n) h x)) (go (clocks (n + 1)) (tick d q (clocks n) h x)) (tick d q (clocks n) h x .taken .lent))
+    (λ n h ok. ok (clocks n))
+    (λ n h x ok u. drives-same b d q (clocks n) h x u ∙ ok u)
+    (λ c h ys. past d q c h (many ys) (undriven ys))
+    (λ c h ys e. rest-law d q c h 0 ys ∙ rw zero-add)
     (λ c h e. refl)
     (cut-body b w xs)
-    (record { number = 0; taken = t })
+    (starting d q)
     (λ u. refl)
 
 -- ---- the phases before it, in which nothing is driven
-wait-law : (d : Device) (k : Kind) (a : ℕ) (c₁ c₂ : Clocks) (t : Taken) (xs : List ℕ)
-    → seen d (ran (toWait (settingOf d) k a (counted c₁ c₂ none none none) (t .value) (t .any)) t) xs ≡ waitOn d k a c₁ c₂ t xs
+wait-law : (d : Device) (q : Point) (xs : List ℕ) → seen d (entering (toWait (settingOf d)) (waited none q)) xs ≡ waitOn d q xs
 unfolding toWait waitOn waitStep stepOf driveOf
-wait-law d k a c₁ c₂ t xs =
+wait-law d q xs =
     let s = settingOf d in
-    let n = waitClocks s k a in
-    let past : Clocks → Progress = λ c. toData s k a (counted c₁ c₂ c none none) (t .value) (t .any) in
-    let go : Clocks → Progress = λ c. at Wait k a 0 (counted c₁ c₂ c none none) (t .value) (t .any) in
-    ap (λ (r : Run). seen d r xs) (chosen (atMost n none) (past none) (go none) t)
-    ∙ stage d {S = Unit {0}} (atMost n) (λ c u. ran (past c) t) (λ c u. ran (go c) t) (λ c u x. u) (λ c. 0) (λ u. Unit {0})
-    (λ m u x. chosen (atMost n (clocks (m + 1))) (past (clocks (m + 1))) (go (clocks (m + 1))) t)
+    let n = waitClocks s (q .facts .kind) (q .facts .address) in
+    let past : Clocks → Run = λ c. entering (toData s) (waited c q) in
+    let go : Clocks → Run = λ c. entering (entered Wait) (waited c q) in
+    ap (λ (r : Run). seen d r xs) (chosen (atMost n none) (past none .progress) (go none .progress) (q .lent))
+    ∙ stage d {S = Unit {0}} (atMost n) (λ c u. past c) (λ c u. go c) (λ c u x. u) (λ c. 0) (λ u. Unit {0})
+    (λ m u x. chosen (atMost n (clocks (m + 1))) (past (clocks (m + 1)) .progress) (go (clocks (m + 1)) .progress) (q .lent))
     (λ m u ok. refl)
     (λ m u x ok. ok)
-    (λ c u ys. dataOn d k a c₁ c₂ c t ys)
-    (λ c u ys e. data-law d k a c₁ c₂ c t ys)
-    (λ c u e. sym (data-on-nil d k t a c₁ c₂ c))
+    (λ c u ys. dataOn d (waited c q) ys)
+    (λ c u ys e. data-law d (waited c q) ys)
+    (λ c u e. sym (data-on-nil d (waited c q)))
     (cut-first n xs) tt tt
     ∙ rw (along-zero (first n xs) 0)
 
@@ -209,23 +258,23 @@ unfolding carried gatherFrom
 carried-gather w [] t number = refl
 carried-gather w (x ∷ xs) t number = carried-gather w xs (t + 1) (shiftOf w number x)
 
-address-law : (d : Device) (k : Kind) (c₁ : Clocks) (t : Taken) (xs : List ℕ)
-    → seen d (ran (toAddress (settingOf d) k (counted c₁ none none none none) (t .value) (t .any)) t) xs ≡ addressOn d k c₁ t xs
+address-law : (d : Device) (q : Point) (xs : List ℕ) → seen d (entering (λ k a t. toAddress (settingOf d) k t) (placed 0 none q)) xs ≡ addressOn d q xs
 unfolding toAddress addressOn addressStep addressRead stepOf driveOf
-address-law d k c₁ t xs =
+address-law d q xs =
     let s = settingOf d in
+    let k = q .facts .kind in
     let n = addressClocks s k in
     let w = wiresFor s k in
-    let past : Clocks → ℕ → Progress = λ c v. toWait s k v (counted c₁ c none none none) (t .value) (t .any) in
-    let go : Clocks → ℕ → Progress = λ c v. at Address k 0 v (counted c₁ c none none none) (t .value) (t .any) in
-    ap (λ (r : Run). seen d r xs) (chosen (atMost n none) (past none 0) (go none 0) t)
-    ∙ stage d {S = ℕ} (atMost n) (λ c v. ran (past c v) t) (λ c v. ran (go c v) t) (λ c v x. shiftOf w v x) (λ c. 0) (λ v. Unit {0})
-    (λ m v x. chosen (atMost n (clocks (m + 1))) (past (clocks (m + 1)) (shiftOf w v x)) (go (clocks (m + 1)) (shiftOf w v x)) t)
+    let past : Clocks → ℕ → Run = λ c v. entering (toWait s) (placed v c q) in
+    let go : Clocks → ℕ → Run = λ c v. record { progress = onward v (placed 0 c q .facts .tally) (entered Address k 0 (placed 0 c q .facts .tally)); lent = q .lent } in
+    ap (λ (r : Run). seen d r xs) (chosen (atMost n none) (past none 0 .progress) (go none 0 .progress) (q .lent))
+    ∙ stage d {S = ℕ} (atMost n) past go (λ c v x. shiftOf w v x) (λ c. 0) (λ v. Unit {0})
+    (λ m v x. chosen (atMost n (clocks (m + 1))) (past (clocks (m + 1)) (shiftOf w v x) .progress) (go (clocks (m + 1)) (shiftOf w v x) .progress) (q .lent))
     (λ m v ok. refl)
     (λ m v x ok. ok)
-    (λ c v ys. waitOn d k (cond (atMost n c) v 0) c₁ c t ys)
-    (λ c v ys e. rw e (wait-law d k v c₁ c t ys))
-    (λ c v e. rw e (sym (wait-on-nil d k t 0 c₁ c)))
+    (λ c v ys. waitOn d (placed (cond (atMost n c) v 0) c q) ys)
+    (λ c v ys e. rw e (wait-law d (placed v c q) ys))
+    (λ c v e. rw e (sym (wait-on-nil d (placed 0 c q))))
     (cut-first n xs) 0 tt
     ∙ rw (along-zero (first n xs) 0, carried-gather w (first n xs) 0 0)
 
@@ -239,24 +288,29 @@ unfolding commandClocks
 command-fits s xs =
     gather-byte (s .wires) (first (byteClocks (s .wires)) xs) (omega (arith, length-take (byteClocks (s .wires) .0) xs))
 
+-- before the first clock
+abbrev pub outset : Lent → Point
+outset l = record { facts = record { kind = Unknown; address = 0; tally = nothingYet }; lent = l }
+
 -- FROM THE FIRST CLOCK ON
-pub command-law : (d : Device) (l : Lent) (xs : List ℕ) → seen d (ran beginOf (nothingTaken l)) xs ≡ commandOn d (nothingTaken l) xs
+pub command-law : (d : Device) (l : Lent) (xs : List ℕ) → seen d (begun l) xs ≡ commandOn d (outset l) xs
 unfolding commandOn commandStep kindRead stepOf driveOf
 command-law d l xs =
     let s = settingOf d in
     let n = commandClocks s in
     let w = s .wires in
-    let t = nothingTaken l in
-    let past : Clocks → ℕ → Progress = λ c v. toAddress s (kindOf (s .part) w (v % 256)) (counted c none none none none) (t .value) (t .any) in
-    let go : Clocks → ℕ → Progress = λ c v. at Command Unknown 0 v (counted c none none none none) (t .value) (t .any) in
-    let enter : cond (atMost n none) (ran (past none 0) t) (ran (go none 0) t) ≡ ran beginOf t = rw (some-command s) in
+    let q = outset l in
+    let kind : ℕ → Kind = λ v. kindOf (familyOf (s .part)) w (v % 256) in
+    let past : Clocks → ℕ → Run = λ c v. entering (λ k a t. toAddress s k t) (named (kind v) c q) in
+    let go : Clocks → ℕ → Run = λ c v. record { progress = onward v (named Unknown c q .facts .tally) beginOf; lent = l } in
+    let enter : cond (atMost n none) (past none 0) (go none 0) ≡ begun l = rw (some-command s) in
     ap (λ (r : Run). seen d r xs) (sym enter)
-    ∙ stage d {S = ℕ} (atMost n) (λ c v. ran (past c v) t) (λ c v. ran (go c v) t) (λ c v x. shiftOf w v x) (λ c. 0) (λ v. Unit {0})
-    (λ m v x. chosen (atMost n (clocks (m + 1))) (past (clocks (m + 1)) (shiftOf w v x)) (go (clocks (m + 1)) (shiftOf w v x)) t)
+    ∙ stage d {S = ℕ} (atMost n) past go (λ c v x. shiftOf w v x) (λ c. 0) (λ v. Unit {0})
+    (λ m v x. chosen (atMost n (clocks (m + 1))) (past (clocks (m + 1)) (shiftOf w v x) .progress) (go (clocks (m + 1)) (shiftOf w v x) .progress) l)
     (λ m v ok. refl)
     (λ m v x ok. ok)
-    (λ c v ys. addressOn d (cond (atMost n c) (kindOf (s .part) w (v % 256)) Unknown) c t ys)
-    (λ c v ys e. rw e (address-law d (kindOf (s .part) w (v % 256)) c t ys))
-    (λ c v e. rw e (sym (address-on-nil d Unknown t c)))
+    (λ c v ys. addressOn d (named (cond (atMost n c) (kind v) Unknown) c q) ys)
+    (λ c v ys e. rw e (address-law d (named (kind v) c q) ys))
+    (λ c v e. rw e (sym (address-on-nil d (named Unknown c q))))
     (cut-first n xs) 0 tt
     ∙ rw (along-zero (first n xs) 0, carried-gather w (first n xs) 0 0, command-fits s xs)

@@ -17,28 +17,30 @@ use Rattle.units.specs.Laws.{whole-lt, lt-whole}
 use Rattle.commands.specs.declared.plans.Body.{Body}
 use Rattle.commands.specs.declared.plans.Body.the-variants.{Nothing, FixedRead, AnyRead, FixedWrite, AnyWrite}
 use Rattle.record.specs.declared.Device.{Device}
-use Rattle.record.specs.Devices.{settingOf}
 use Rattle.paper.specs.Reading.{many, first, after, dataPart, restPart}
+use Rattle.paper.specs.Storing.{Lent}
 use Rattle.paper.specs.Driving.{along}
 use Rattle.paper.specs.Answers.{Facts}
-use Rattle.clocking.specs.Machine.{Run, fullAt, stepOf, driveOf, runOf, outsOf}
+use Rattle.words.specs.Words.{Run}
+use Rattle.clocking.specs.Machine.{termsOf, fullAt, stepOf, driveOf, runOf, outsOf}
 use Rattle.running.specs.Laws.{run-append, outs-append}
 use Rattle.judging.specs.Finish.{factsIn}
 
--- what a run shows at its end: the facts, and what was driven
+-- what a run shows at its end: the facts, what is lent, and what was driven
 pub record Seen : Type 0 where
   pub facts : Facts
+  pub lent : Lent
   pub out : List ℕ
 
-abbrev pub factsAt : Run → Facts
-factsAt r = factsIn (r .progress) (r .lent)
+abbrev pub shows : Run → List ℕ → Seen
+shows r o = record { facts = factsIn (r .progress); lent = r .lent; out = o }
 
 abbrev pub seen : Device → Run → List ℕ → Seen
-seen d r xs = record { facts = factsAt (runOf d r xs); out = outsOf d r xs }
+seen d r xs = shows (runOf d r xs) (outsOf d r xs)
 
 -- the same, where so much was driven before
 abbrev pub behind : List ℕ → Seen → Seen
-behind o s = record { facts = s .facts; out = o ++ s .out }
+behind o s = record { facts = s .facts; lent = s .lent; out = o ++ s .out }
 
 seen-append : (d : Device) (r : Run) (xs ys : List ℕ) → seen d r (xs ++ ys) ≡ behind (outsOf d r xs) (seen d (runOf d r xs) ys)
 seen-append d r xs ys = rw (run-append d r xs ys, outs-append d r xs ys)
@@ -58,7 +60,7 @@ pub record Cut (full : Clocks → Bool) (zs xs ys : List ℕ) : Type 0 where
 module _
     (d : Device) {S : Type 0} (full : Clocks → Bool) (done go : Clocks → S → Run) (tick : Clocks → S → ℕ → S) (out : Clocks → ℕ) (Ok : S → Type 0)
     (moves : (t : ℕ) (s : S) (x : ℕ)
-    → stepOf (settingOf d) (d .volatile .latch) (go (clocks t) s) x
+    → stepOf (termsOf d) (go (clocks t) s) x
     ≡ cond (full (clocks (t + 1))) (done (clocks (t + 1)) (tick (clocks t) s x)) (go (clocks (t + 1)) (tick (clocks t) s x)))
     (drives : (t : ℕ) (s : S) → Ok s → driveOf d (go (clocks t) s) ≡ out (clocks t))
     (keeps : (t : ℕ) (s : S) (x : ℕ) → Ok s → Ok (tick (clocks t) s x)) where
@@ -83,7 +85,7 @@ module _
   module _
       (next : Clocks → S → List ℕ → Seen)
       (onward : (t : Clocks) (s : S) (ys : List ℕ) → full t ≡ true → seen d (done t s) ys ≡ next t s ys)
-      (short : (t : Clocks) (s : S) → full t ≡ false → record { facts = factsAt (go t s); out = [] } ≡ next t s []) where
+      (short : (t : Clocks) (s : S) → full t ≡ false → shows (go t s) [] ≡ next t s []) where
     leaves : (t : Clocks) (s : S) (ys : List ℕ) (b : Bool) → full t ≡ b → (full t ≡ false → ys ≡ []) → seen d (enter (t .0) s) ys ≡ next t s ys
     unfolding runOf outsOf
     leaves t s ys true e h = rw e (onward t s ys e)

@@ -11,8 +11,7 @@ use Rattle.commands.specs.declared.plans.Body.the-variants.{Nothing, FixedRead,
 use Rattle.commands.specs.Plans.{laterWires, addressOf, waitOf}
 use Rattle.record.specs.declared.Answer.{Answer}
 use Rattle.paper.specs.InForce.{addressLength}
-use Rattle.paper.specs.Answers.{firstOf}
-use Rattle.paper.specs.Building.{Order, bodyAsked, silent, dataSent, buildRows}
+use Rattle.paper.specs.Building.{Order, bodyAsked, silent, dataSent, buildAnswer}
 
 -- wait and data, after a command on some wires
 unfoldable pub restOf : Order → Kind → Wires → List ℕ
@@ -32,4 +31,4 @@ frontOf k w cr2 = clocks (clocksOf w (bytes 1) .0 + addressLength (addressOf k) 
 
 -- the answer before anything is written
 unfoldable pub refusalOf : Order → Kind → List ℕ → Answer
-refusalOf o k out = firstOf (buildRows o k out)
+refusalOf o k out = buildAnswer o k out

@@ -1,52 +1,71 @@
-// One byte of a burst: stored where it lies, or read and driven.
+// One byte of a burst: stored where it lies, or read and driven; and how many of a burst lie at protected places.
 //
 // The number of the byte is below 65,536 and the memory no larger than an address reaches, as in `places`.
 ghost use mathlib.Core.Path.{_≡_};
 ghost use Prim.Native.Nat.{_≤_};
 ghost use lib.ListN.{getD, set};
-ghost use Rattle.paper.specs.Storing.{inArea, protectedAt, putAt};
-ghost use Rattle.paper.specs.Driving.{mappedByte, byteRead, levelAt, drivenAt};
-ghost use Rattle.bursts.specs.Lends.{lends};
+ghost use Rattle.words.specs.Words.{lends};
+ghost use Rattle.paper.specs.Storing.{intoArea, protectedAt, putAt, shutAmong};
+ghost use Rattle.paper.specs.Driving.{mappedByte, foundAt, byteRead, levelAt, drivenAt};
 use commands::plans::Body;
 use commands::registers::Mapped;
 use commands::registers::register_at;
 use opcodes::Kind;
 use opcodes::Register;
+use opcodes::Source;
+use opcodes::Target;
+use record::Aim;
 use record::Device;
-use record::Setting;
 use units::Bytes;
 use units::Clocks;
 
-// Whether a command goes to the area.
-fn is_in_area(k: Kind) -> bool
-    ensures { λ r. ⌜ r ≡ inArea k ⌝ }
+// Whether a write goes to the area.
+fn is_into_area(k: Kind) -> bool
+    ensures { λ r. ⌜ r ≡ intoArea k ⌝ }
 {
     match k {
         Kind::Unknown => false,
         Kind::Plain(_) => false,
-        Kind::ReadRegister(_) => false,
-        Kind::ReadAny => false,
-        Kind::ReadMode => false,
-        Kind::ReadIdentity => false,
-        Kind::WriteRegister(_) => false,
-        Kind::WriteMode => false,
-        Kind::ReadMemory(_) => false,
-        Kind::WriteMemory(_) => false,
-        Kind::ReadArea => true,
-        Kind::WriteArea => true,
+        Kind::Read(_) => false,
+        Kind::Write(to) => match to {
+            Target::Register(_) => false,
+            Target::Mode => false,
+            Target::Memory(_) => false,
+            Target::Area => true,
+        },
     }
 }
 
 // Whether byte `i` of a write lies at a protected place.
-pub fn protected_at(s: Setting, k: Kind, address: u32, i: Bytes) -> bool
-    requires { ⌜ (s .n ≤ 24) × (i .0 ≤ 65535) ⌝ }
-    ensures { λ r. ⌜ r ≡ protectedAt s k address i ⌝ }
+pub fn protected_at(a: Aim, i: Bytes) -> bool
+    requires { ⌜ (a .setting .n ≤ 24) × (i .0 ≤ 65535) ⌝ }
+    ensures { λ r. ⌜ r ≡ protectedAt a i ⌝ }
 {
-    if is_in_area(k) {
+    let s = a.setting;
+    let k = a.kind;
+    if is_into_area(k) {
         let part = s.part;
-        return places::area_protected(s, places::area_place(part, address, i));
+        return places::area_protected(s, places::area_place(part, a.address, i));
     }
-    places::protected(s, places::write_place(s, address, i))
+    places::protected(s, places::write_place(s, a.address, i))
+}
+
+// How many of the first `m` bytes of a write lie at protected places: one walk over them.
+pub fn shut_among(a: Aim, m: Bytes) -> Bytes
+    requires { ⌜ (a .setting .n ≤ 24) × (m .0 ≤ 65535) ⌝ }
+    ensures { λ r. ⌜ r ≡ shutAmong a m ⌝ }
+{
+    let all = m.0;
+    let mut i = 0;
+    let mut shut = 0;
+    while i < all {
+        let here = protected_at(a, Bytes(i));
+        i += 1;
+        if here {
+            shut += 1;
+        }
+    }
+    Bytes(shut)
 }
 
 // A byte at a place, where the store has it.
@@ -59,24 +78,18 @@ fn put(store: &mut [u8], place: usize, b: u8)
 }
 
 // Byte `i` of a write, stored.
-pub fn put_at(
-    s: Setting,
-    k: Kind,
-    address: u32,
-    i: Bytes,
-    b: u8,
-    memory: &mut [u8],
-    area: &mut [u8],
-)
-    requires { ⌜ (s .n ≤ 24) × (i .0 ≤ 65535) ⌝ }
-    ensures { λ _. ⌜ lends (now (memory .exit)) (now (area .exit)) ≡ putAt s k address i b (lends (now (memory .entry)) (now (area .entry))) ⌝ }
+pub fn put_at(a: Aim, i: Bytes, b: u8, memory: &mut [u8], area: &mut [u8])
+    requires { ⌜ (a .setting .n ≤ 24) × (i .0 ≤ 65535) ⌝ }
+    ensures { λ _. ⌜ lends (now (memory .exit)) (now (area .exit)) ≡ putAt a i b (lends (now (memory .entry)) (now (area .entry))) ⌝ }
 {
-    if is_in_area(k) {
+    let s = a.setting;
+    let k = a.kind;
+    if is_into_area(k) {
         let part = s.part;
-        put(area, places::area_place(part, address, i), b);
+        put(area, places::area_place(part, a.address, i), b);
         return;
     }
-    put(memory, places::write_place(s, address, i), b);
+    put(memory, places::write_place(s, a.address, i), b);
 }
 
 // The byte at a place, and 0 where the store has it not.
@@ -98,32 +111,39 @@ fn mapped_byte(d: Device, m: Mapped, i: Bytes) -> u8
     }
 }
 
-// Byte `i` of what a command reads.
-fn byte_read(d: Device, k: Kind, address: u32, memory: &[u8], area: &[u8], i: Bytes) -> u8
-    requires { ⌜ (d .n ≤ 24) × (i .0 ≤ 65535) ⌝ }
-    ensures { λ r. ⌜ r ≡ byteRead d k address (lends (now (memory .entry)) (now (area .entry))) i ⌝ }
+// Byte `i` of what a read finds at its source.
+fn found_at(d: Device, from: Source, address: u32, memory: &[u8], area: &[u8], i: Bytes) -> u8
+    requires { ⌜ (d .make .n ≤ 24) × (i .0 ≤ 65535) ⌝ }
+    ensures { λ r. ⌜ r ≡ foundAt d from address (lends (now (memory .entry)) (now (area .entry))) i ⌝ }
 {
     let s = d.setting();
     let part = s.part;
+    match from {
+        Source::Register(r) => d.shown_byte(r, i),
+        Source::Map => mapped_byte(d, register_at(part, address), i),
+        Source::Mode => d.shown_byte(Register::ModeRegister, i),
+        Source::Identity => d.shown_byte(Register::LongIdentity, i),
+        Source::Memory(_) => get(memory, places::read_place(s, address, i)),
+        Source::Area => get(area, places::area_place(part, address, i)),
+    }
+}
+
+// Byte `i` of what a command reads.
+fn byte_read(d: Device, k: Kind, address: u32, memory: &[u8], area: &[u8], i: Bytes) -> u8
+    requires { ⌜ (d .make .n ≤ 24) × (i .0 ≤ 65535) ⌝ }
+    ensures { λ r. ⌜ r ≡ byteRead d k address (lends (now (memory .entry)) (now (area .entry))) i ⌝ }
+{
     match k {
         Kind::Unknown => 0,
         Kind::Plain(_) => 0,
-        Kind::ReadRegister(r) => d.shown_byte(r, i),
-        Kind::ReadAny => mapped_byte(d, register_at(part, address), i),
-        Kind::ReadMode => d.shown_byte(Register::ModeRegister, i),
-        Kind::ReadIdentity => d.shown_byte(Register::LongIdentity, i),
-        Kind::WriteRegister(_) => 0,
-        Kind::WriteMode => 0,
-        Kind::ReadMemory(_) => get(memory, places::read_place(s, address, i)),
-        Kind::WriteMemory(_) => 0,
-        Kind::ReadArea => get(area, places::area_place(part, address, i)),
-        Kind::WriteArea => 0,
+        Kind::Read(from) => found_at(d, from, address, memory, area, i),
+        Kind::Write(_) => 0,
     }
 }
 
 // The output byte of data clock `t` of a read.
 fn level_at(d: Device, k: Kind, address: u32, memory: &[u8], area: &[u8], t: Clocks) -> u8
-    requires { ⌜ (d .n ≤ 24) × (t .0 ≤ 65535) ⌝ }
+    requires { ⌜ (d .make .n ≤ 24) × (t .0 ≤ 65535) ⌝ }
     ensures { λ r. ⌜ r ≡ levelAt d k address (lends (now (memory .entry)) (now (area .entry))) t ⌝ }
 {
     let w = phases::wires_for(d.setting(), k);
@@ -141,7 +161,7 @@ pub fn driven_at(
     area: &[u8],
     t: Clocks,
 ) -> u8
-    requires { ⌜ (d .n ≤ 24) × (t .0 ≤ 65535) ⌝ }
+    requires { ⌜ (d .make .n ≤ 24) × (t .0 ≤ 65535) ⌝ }
     ensures { λ r. ⌜ r ≡ drivenAt b d k address (lends (now (memory .entry)) (now (area .entry))) t ⌝ }
 {
     match b {

@@ -3,19 +3,18 @@ use Prim.Native.Nat.{ℕ}
 use mathlib.Core.Bool.{Bool, cond, _&&_}
 use mathlib.Core.List.{List, []}
 use lib.Dec.{eqb}
-use lib.ListN.{length}
+use lib.ListN.{length, replicate}
 use Rattle.parts.specs.declared.Part.the-variants.{M, P}
 use Rattle.parts.specs.Parts.{offered}
 use Rattle.counts.specs.Counts.{noCounts}
 use Rattle.record.specs.declared.Answer.the-variants.{Done, Size, State}
 use Rattle.record.specs.declared.Device.{Device}
 use Rattle.record.specs.Answers.{answerNumber}
-use Rattle.record.specs.Fresh.{freshM, freshP}
+use Rattle.record.specs.Fresh.{makeOf, freshOf}
 use Rattle.paper.specs.Storing.{Lent}
 use Rattle.paper.specs.Transaction.{World, refusal, transactOf, powerOf}
-use Rattle.bursts.specs.Lends.{lends}
-use Rattle.judging.specs.declared.Outcome.{Outcome}
-use Rattle.parting.specs.Parting.{worldOf}
+use Rattle.record.specs.declared.Outcome.{Outcome}
+use Rattle.words.specs.Words.{lends, worldOf}
 use Rattle.chips.specs.Chips.{chipSize, isChip, chipOf, bytesOf}
 use Rattle.chips.specs.Words.{hasCounts, countsOver}
 
@@ -33,10 +32,10 @@ made fits d chip =
     cond (eqb (length chip) chipSize) (cond fits (madeAs (answerNumber Done) (bytesOf d)) (madeAs (answerNumber Size) chip)) (madeAs (answerNumber State) chip)
 
 unfoldable pub freshMIn : ℕ → List ℕ → List ℕ → List ℕ → Made
-freshMIn n device unique chip = made (offered M n && (eqb (length device) 4 && eqb (length unique) 8)) (freshM n device unique) chip
+freshMIn n device unique chip = made (offered M n && (eqb (length device) 4 && eqb (length unique) 8)) (freshOf (makeOf M n) device unique) chip
 
 unfoldable pub freshPIn : ℕ → List ℕ → List ℕ → Made
-freshPIn n device chip = made (offered P n && eqb (length device) 8) (freshP n device) chip
+freshPIn n device chip = made (offered P n && eqb (length device) 8) (freshOf (makeOf P n) device (replicate 8 0)) chip
 
 -- ---- transactions and power cycles: all that a call leaves
 pub record Call : Type 0 where
@@ -62,7 +61,7 @@ across chip l out counts w =
 unfoldable pub transactIn : List ℕ → Lent → List ℕ → List ℕ → List ℕ → Call
 transactIn chip l xs out counts =
     let d = chipOf chip in
-    across chip l out counts (cond (hasCounts counts) (transactOf d l xs out) (refusal Size d l out))
+    across chip l out counts (cond (hasCounts counts) (transactOf d l xs out) (refusal d l out Size))
 
 unfoldable pub powerIn : List ℕ → Lent → Call
 powerIn chip l = across chip l [] [] (powerOf (chipOf chip) l)

@@ -1,6 +1,6 @@
 -- A call that is answered 1, 2 or 3 changes nothing of what C lent, but that the five counts are 0. Also where the refusal is the device's own, after the chip was read from its bytes and written again.
 -- Assumes nothing.
-use mathlib.Core.Path.{_≡_, refl, ap, _∙_}
+use mathlib.Core.Path.{_≡_, refl, sym, ap, _∙_}
 use Prim.Native.Nat.{ℕ}
 use mathlib.Core.Bool.{Bool, true, false, cond}
 use mathlib.Core.List.{List, []}
@@ -10,7 +10,8 @@ use Rattle.paper.specs.Storing.{Lent}
 use Rattle.paper.specs.Transaction.{World, refusal}
 use Rattle.record.specs.declared.Answer.the-variants.{Size}
 use Rattle.record.specs.Answers.{refusing, refuses}
-use Rattle.theorems.specs.Refused.{Untouched, refused, power-refused}
+use Rattle.record.specs.Laws.{refusing-is}
+use Rattle.paper.specs.CallLaws.{Untouched, transact-refused, power-refused-so}
 use Rattle.chips.specs.Chips.{isChip, chipOf, bytesOf}
 use Rattle.chips.specs.Words.{hasCounts, countsOver}
 use Rattle.chips.specs.Laws.{write-back}
@@ -39,18 +40,18 @@ module _ (chip : List ℕ) (l : Lent) (out counts : List ℕ) where
       strange = record { answer = 3; chip = chip; lent = l; output = out; counts = countsOver noCounts counts }
 
       by : (b : Bool) → isChip chip ≡ b → refusing (cond b (inBytes w counts) strange .answer) ≡ true → Kept chip l out counts (cond b (inBytes w counts) strange)
-      by true y e = in-bytes w y (u e)
+      by true y e = in-bytes w y (u (sym (refusing-is (w .answer)) ∙ e))
       by false n e = record { chip-kept = refl; lent-kept = refl; output-kept = refl; counts-none = refl }
 
   -- no room for the counts refuses too
-  uncounted : (c : Bool) (w : World) → Leaves w → Leaves (cond c w (refusal Size (chipOf chip) l out))
+  uncounted : (c : Bool) (w : World) → Leaves w → Leaves (cond c w (refusal (chipOf chip) l out Size))
   uncounted true w u e = u e
   uncounted false w u e = record { counts = refl; device = refl; lent = refl; output = refl }
 
   pub transact-kept : (xs : List ℕ) → refusing (transactIn chip l xs out counts .answer) ≡ true → Kept chip l out counts (transactIn chip l xs out counts)
   unfolding transactIn
-  transact-kept xs = kept _ (uncounted (hasCounts counts) _ (refused (chipOf chip) l xs out))
+  transact-kept xs = kept _ (uncounted (hasCounts counts) _ (transact-refused (chipOf chip) l xs out))
 
 pub power-kept : (chip : List ℕ) (l : Lent) → refusing (powerIn chip l .answer) ≡ true → Kept chip l [] [] (powerIn chip l)
 unfolding powerIn
-power-kept chip l = kept chip l [] [] _ (power-refused (chipOf chip) l)
+power-kept chip l = kept chip l [] [] _ (power-refused-so (chipOf chip) l)

@@ -4,7 +4,7 @@ ghost use mathlib.Core.Path.{_≡_};
 ghost use mathlib.Core.List.{[]};
 ghost use lib.ListN.{length};
 ghost use Rattle.units.specs.Units.{bytes};
-ghost use Rattle.bursts.specs.Lends.{lends};
+ghost use Rattle.words.specs.Words.{lends};
 ghost use Rattle.chips.specs.Chips.{chipSize};
 ghost use Rattle.cabi.specs.Calls.{madeAs, freshMIn, freshPIn, callAs, outcomeTold, transactIn, powerIn};
 ghost use Rattle.cabi.specs.Fills.{filledAs, orderIn, buildIn, gatherIn};
@@ -18,11 +18,14 @@ use chips::put_chip;
 use chips::put_counts;
 use chips::put_number;
 use counts::Counts;
-use judging::Outcome;
 use orders::Order;
 use parts::Part;
+use parts::PartM;
+use parts::PartP;
 use parts::is_offered;
 use record::Device;
+use record::Make;
+use record::Outcome;
 use record::answer_number;
 use units::Bytes;
 
@@ -50,8 +53,12 @@ pub extern "C" fn tondravik_fresh_m(n: u8, device: &[u8], unique: &[u8], chip: &
     if unique.len() != 8 {
         return SIZE;
     }
-    let four = [device[0], device[1], device[2], device[3]];
-    put_chip(Device::fresh_m(n, four, eight_at(unique, 0)), chip);
+    let eight = [device[0], device[1], device[2], device[3], 0, 0, 0, 0];
+    let make = Make {
+        part: PartM::NUMBER,
+        n,
+    };
+    put_chip(Device::fresh(make, eight, eight_at(unique, 0)), chip);
     DONE
 }
 
@@ -69,7 +76,11 @@ pub extern "C" fn tondravik_fresh_p(n: u8, device: &[u8], chip: &mut [u8]) -> u8
     if device.len() != 8 {
         return SIZE;
     }
-    put_chip(Device::fresh_p(n, eight_at(device, 0)), chip);
+    let make = Make {
+        part: PartP::NUMBER,
+        n,
+    };
+    put_chip(Device::fresh(make, eight_at(device, 0), [0u8; 8]), chip);
     DONE
 }
 

@@ -61,15 +61,15 @@ abbrev pub identitiesAt : List ℕ → Identities
 identitiesAt bs = record { device = eightAt 14 bs; unique = eightAt 22 bs; serial = eightAt 30 bs }
 
 unfoldable pub chipOf : List ℕ → Device
-chipOf bs = record { part = getD bs 0 0; n = getD bs 1 0; registers = registersAt bs; volatile = volatileAt bs; identity = identitiesAt bs }
+chipOf bs = record { make = record { part = getD bs 0 0; n = getD bs 1 0 }; registers = registersAt bs; volatile = volatileAt bs; identity = identitiesAt bs }
 
 -- ---- and from a record to bytes
 abbrev pub fieldsOf : Device → List ℕ
 fieldsOf d =
     let r = d .registers in
     let v = d .volatile in
-    d .part
-    ∷ d .n
+    d .make .part
+    ∷ d .make .n
     ∷ r .status
     ∷ r .protection
     ∷ r .cr1

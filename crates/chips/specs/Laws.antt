@@ -130,7 +130,7 @@ module _ (d : Device) (e : Eights (d .identity)) where
       ap (λ (z : Volatile). with z (identitiesAt (bytesOf d))) same ∙ ap (with v) ids
     where
       with : Volatile → Identities → Device
-      with z j = record { part = d .part; n = d .n; registers = d .registers; volatile = z; identity = j }
+      with z j = record { make = d .make; registers = d .registers; volatile = z; identity = j }
 
   -- and its bytes are a chip's
   bytes-flags : (isFlag 10 (bytesOf d) && (isFlag 11 (bytesOf d) && (isFlag 12 (bytesOf d) && isFlag 13 (bytesOf d)))) ≡ true

@@ -10,6 +10,7 @@ use counts::Counts;
 use pages::put_all;
 use record::Device;
 use record::Identities;
+use record::Make;
 use record::Registers;
 use record::Volatile;
 
@@ -108,8 +109,10 @@ pub fn chip_of(chip: &[u8]) -> Device
     let volatile = volatile_at(chip);
     let identity = identities_at(chip);
     Device {
-        part: chip[0],
-        n: chip[1],
+        make: Make {
+            part: chip[0],
+            n: chip[1],
+        },
         registers,
         volatile,
         identity,
@@ -137,8 +140,8 @@ fn fields_of(d: Device) -> [u8; 14]
     let asleep = bit_of(v.asleep);
     let toggle = bit_of(v.toggle);
     [
-        d.part,
-        d.n,
+        d.make.part,
+        d.make.n,
         r.status,
         r.protection,
         r.cr1,

@@ -6,8 +6,7 @@ use lib.Dec.{eqb}
 use Rattle.units.specs.declared.Clocks.{Clocks}
 use Rattle.units.specs.Units.{clocks}
 use Rattle.record.specs.declared.Answer.{Answer}
-use Rattle.paper.specs.Answers.{firstOf}
-use Rattle.paper.specs.Collecting.{collectRows}
+use Rattle.paper.specs.Collecting.{collectAnswer}
 
 -- how many clocks are driven, on any wires
 unfoldable pub countOf : List ℕ → ℕ
@@ -19,4 +18,4 @@ drivenIn xs = clocks (countOf xs)
 
 -- the answer
 unfoldable pub refusalOf : ℕ → List ℕ → List ℕ → Answer
-refusalOf wires xs out = firstOf (collectRows wires xs out)
+refusalOf wires xs out = collectAnswer wires xs out

@@ -1,18 +1,21 @@
 -- Laws of the plan: the rule of the table of waits.
 -- Assumes nothing.
-use mathlib.Core.Path.{_≡_, refl, sym, ap}
+use mathlib.Core.Path.{_≡_, refl, sym, ap, _∙_}
 use Prim.Native.Nat.{ℕ, _+_, _*_, _%_, _<_, _≤_}
 use native.Mathlib.Omega.{arith}
+use mathlib.Core.Bool.{Bool, true, false}
 use mathlib.Core.List.{[], _∷_}
 use lib.Dec.{lit≤, lit<}
+use borrow.Author.Tests.{eqb-false}
 use lib.ListN.{length, getD, List·getD-append}
 use Rattle.units.specs.declared.Wires.{Wires}
 use Rattle.units.specs.declared.Wires.the-variants.{One, Two, Four}
 use Rattle.units.specs.Units.{clocks}
 use Rattle.opcodes.specs.declared.Reading.the-variants as Reads
+use Rattle.opcodes.specs.declared.Source.the-variants as From
 use Rattle.opcodes.specs.declared.Kind.{Kind}
-use Rattle.opcodes.specs.declared.Kind.the-variants.{Unknown, Plain, ReadRegister, ReadAny, ReadMode, ReadIdentity, WriteRegister, WriteMode, ReadMemory, WriteMemory, ReadArea, WriteArea}
-use Rattle.commands.specs.Plans.{fixedWaits, waitTable, waitRow, columnOf, waitOf}
+use Rattle.opcodes.specs.declared.Kind.the-variants.{Unknown, Plain, Read, Write}
+use Rattle.commands.specs.Plans.{fixedWaits, waitTable, waitRow, waitsByRegister, columnOf, waitOf}
 
 pub column-lt : (w : Wires) → columnOf w < 3
 column-lt One = lit< tt
@@ -23,19 +26,16 @@ column-lt Four = lit< tt
 pub row-le : (k : Kind) → waitRow k ≤ 5
 row-le Unknown = lit≤ tt
 row-le (Plain c) = lit≤ tt
-row-le (ReadRegister r) = lit≤ tt
-row-le ReadAny = lit≤ tt
-row-le ReadMode = lit≤ tt
-row-le ReadIdentity = lit≤ tt
-row-le (WriteRegister r) = lit≤ tt
-row-le WriteMode = lit≤ tt
-row-le (ReadMemory Reads.Plain) = lit≤ tt
-row-le (ReadMemory Reads.Fast) = lit≤ tt
-row-le (ReadMemory Reads.Quad) = lit≤ tt
-row-le (ReadMemory Reads.Wrapped) = lit≤ tt
-row-le (WriteMemory s) = lit≤ tt
-row-le ReadArea = lit≤ tt
-row-le WriteArea = lit≤ tt
+row-le (Read (From.Register r)) = lit≤ tt
+row-le (Read From.Map) = lit≤ tt
+row-le (Read From.Mode) = lit≤ tt
+row-le (Read From.Identity) = lit≤ tt
+row-le (Read (From.Memory Reads.Plain)) = lit≤ tt
+row-le (Read (From.Memory Reads.Fast)) = lit≤ tt
+row-le (Read (From.Memory Reads.Quad)) = lit≤ tt
+row-le (Read (From.Memory Reads.Wrapped)) = lit≤ tt
+row-le (Read From.Area) = lit≤ tt
+row-le (Write t) = lit≤ tt
 
 module _ (k : Kind) (w : Wires) (cr2 : ℕ) where
   -- a row before the last is fixed
@@ -54,3 +54,11 @@ module _ (k : Kind) (w : Wires) (cr2 : ℕ) where
   -- the last is configuration 2
   pub wait-configured : waitRow k ≡ 5 → clocks (cr2 % 16) ≡ waitOf k w cr2
   wait-configured e = rw e (ap clocks (last w))
+
+-- two configurations 2 give the same wait, but where it stands there
+pub wait-by : (k : Kind) (w : Wires) (a b : ℕ) → (waitsByRegister k ≡ true → a ≡ b) → waitOf k w a ≡ waitOf k w b
+wait-by k w a b e = by (waitsByRegister k) refl e
+  where
+    by : (t : Bool) → waitsByRegister k ≡ t → (t ≡ true → a ≡ b) → waitOf k w a ≡ waitOf k w b
+    by true h e = ap (waitOf k w) (e refl)
+    by false h e = let n = eqb-false (waitRow k) 5 h in sym (wait-fixed k w a n) ∙ wait-fixed k w b n

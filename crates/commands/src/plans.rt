@@ -1,12 +1,14 @@
 // The plan of a command: what its clocks are for.
 ghost use mathlib.Core.Path.{_≡_};
-ghost use Rattle.commands.specs.Plans.{columnOf, waitRow, waitsByRegister, waitOf, laterWires, addressOf, mappedBody, bodyOf};
+ghost use Rattle.commands.specs.Plans.{columnOf, waitRow, waitsByRegister, waitOf, laterWires, addressOf, mappedBody, readBody, writeBody, bodyOf, reads, writes};
 use crate::registers::Mapped;
 use crate::registers::register_at;
 use crate::registers::size_of;
 use opcodes::Kind;
 use opcodes::Reading;
 use opcodes::Register;
+use opcodes::Source;
+use opcodes::Target;
 use opcodes::Writing;
 use parts::Part;
 use units::Bytes;
@@ -42,21 +44,20 @@ fn wait_row(k: Kind) -> usize
     match k {
         Kind::Unknown => 0,
         Kind::Plain(_) => 0,
-        Kind::ReadRegister(_) => 0,
-        Kind::ReadAny => 1,
-        Kind::ReadMode => 4,
-        Kind::ReadIdentity => 0,
-        Kind::WriteRegister(_) => 0,
-        Kind::WriteMode => 0,
-        Kind::ReadMemory(r) => match r {
-            Reading::Plain => 0,
-            Reading::Fast => 2,
-            Reading::Quad => 3,
-            Reading::Wrapped => 4,
+        Kind::Read(from) => match from {
+            Source::Register(_) => 0,
+            Source::Map => 1,
+            Source::Mode => 4,
+            Source::Identity => 0,
+            Source::Memory(r) => match r {
+                Reading::Plain => 0,
+                Reading::Fast => 2,
+                Reading::Quad => 3,
+                Reading::Wrapped => 4,
+            },
+            Source::Area => 5,
         },
-        Kind::WriteMemory(_) => 0,
-        Kind::ReadArea => 5,
-        Kind::WriteArea => 0,
+        Kind::Write(_) => 0,
     }
 }
 
@@ -97,24 +98,28 @@ pub fn later_wires(k: Kind, w: Wires) -> Wires
     match k {
         Kind::Unknown => w,
         Kind::Plain(_) => w,
-        Kind::ReadRegister(_) => w,
-        Kind::ReadAny => w,
-        Kind::ReadMode => w,
-        Kind::ReadIdentity => w,
-        Kind::WriteRegister(_) => w,
-        Kind::WriteMode => w,
-        Kind::ReadMemory(r) => match r {
-            Reading::Plain => w,
-            Reading::Fast => w,
-            Reading::Quad => Wires::Four,
-            Reading::Wrapped => w,
+        Kind::Read(from) => match from {
+            Source::Register(_) => w,
+            Source::Map => w,
+            Source::Mode => w,
+            Source::Identity => w,
+            Source::Memory(r) => match r {
+                Reading::Plain => w,
+                Reading::Fast => w,
+                Reading::Quad => Wires::Four,
+                Reading::Wrapped => w,
+            },
+            Source::Area => w,
         },
-        Kind::WriteMemory(r) => match r {
-            Writing::Plain => w,
-            Writing::Quad => Wires::Four,
+        Kind::Write(to) => match to {
+            Target::Register(_) => w,
+            Target::Mode => w,
+            Target::Memory(r) => match r {
+                Writing::Plain => w,
+                Writing::Quad => Wires::Four,
+            },
+            Target::Area => w,
         },
-        Kind::ReadArea => w,
-        Kind::WriteArea => w,
     }
 }
 
@@ -125,16 +130,20 @@ pub fn address_of(k: Kind) -> Address
     match k {
         Kind::Unknown => Address::Absent,
         Kind::Plain(_) => Address::Absent,
-        Kind::ReadRegister(_) => Address::Absent,
-        Kind::ReadAny => Address::InMap,
-        Kind::ReadMode => Address::LowNibbleZero,
-        Kind::ReadIdentity => Address::Ignored,
-        Kind::WriteRegister(_) => Address::Absent,
-        Kind::WriteMode => Address::LowNibbleZero,
-        Kind::ReadMemory(_) => Address::InMemory,
-        Kind::WriteMemory(_) => Address::InMemory,
-        Kind::ReadArea => Address::InArea,
-        Kind::WriteArea => Address::InArea,
+        Kind::Read(from) => match from {
+            Source::Register(_) => Address::Absent,
+            Source::Map => Address::InMap,
+            Source::Mode => Address::LowNibbleZero,
+            Source::Identity => Address::Ignored,
+            Source::Memory(_) => Address::InMemory,
+            Source::Area => Address::InArea,
+        },
+        Kind::Write(to) => match to {
+            Target::Register(_) => Address::Absent,
+            Target::Mode => Address::LowNibbleZero,
+            Target::Memory(_) => Address::InMemory,
+            Target::Area => Address::InArea,
+        },
     }
 }
 
@@ -148,22 +157,65 @@ fn mapped_body(m: Mapped) -> Body
     }
 }
 
-// The data of a command. The address counts where it names the register that is read.
+// The data of a read. The address counts where it names the register that is read.
+fn read_body(part: Part, from: Source, address: u32) -> Body
+    ensures { λ r. ⌜ r ≡ readBody part from address ⌝ }
+{
+    match from {
+        Source::Register(r) => Body::FixedRead(size_of(r)),
+        Source::Map => mapped_body(register_at(part, address)),
+        Source::Mode => Body::FixedRead(size_of(Register::ModeRegister)),
+        Source::Identity => Body::FixedRead(size_of(Register::LongIdentity)),
+        Source::Memory(_) => Body::AnyRead,
+        Source::Area => Body::AnyRead,
+    }
+}
+
+// The data of a write.
+fn write_body(to: Target) -> Body
+    ensures { λ r. ⌜ r ≡ writeBody to ⌝ }
+{
+    match to {
+        Target::Register(r) => Body::FixedWrite(size_of(r)),
+        Target::Mode => Body::FixedWrite(size_of(Register::ModeRegister)),
+        Target::Memory(_) => Body::AnyWrite,
+        Target::Area => Body::AnyWrite,
+    }
+}
+
+// The data of a command.
 pub fn body_of(part: Part, k: Kind, address: u32) -> Body
     ensures { λ r. ⌜ r ≡ bodyOf part k address ⌝ }
 {
     match k {
         Kind::Unknown => Body::Nothing,
         Kind::Plain(_) => Body::Nothing,
-        Kind::ReadRegister(r) => Body::FixedRead(size_of(r)),
-        Kind::ReadAny => mapped_body(register_at(part, address)),
-        Kind::ReadMode => Body::FixedRead(size_of(Register::ModeRegister)),
-        Kind::ReadIdentity => Body::FixedRead(size_of(Register::LongIdentity)),
-        Kind::WriteRegister(r) => Body::FixedWrite(size_of(r)),
-        Kind::WriteMode => Body::FixedWrite(size_of(Register::ModeRegister)),
-        Kind::ReadMemory(_) => Body::AnyRead,
-        Kind::WriteMemory(_) => Body::AnyWrite,
-        Kind::ReadArea => Body::AnyRead,
-        Kind::WriteArea => Body::AnyWrite,
+        Kind::Read(from) => read_body(part, from, address),
+        Kind::Write(to) => write_body(to),
+    }
+}
+
+// Whether it is a read, or a write.
+pub fn is_read(b: Body) -> bool
+    ensures { λ r. ⌜ r ≡ reads b ⌝ }
+{
+    match b {
+        Body::Nothing => false,
+        Body::FixedRead(_) => true,
+        Body::AnyRead => true,
+        Body::FixedWrite(_) => false,
+        Body::AnyWrite => false,
+    }
+}
+
+pub fn is_write(b: Body) -> bool
+    ensures { λ r. ⌜ r ≡ writes b ⌝ }
+{
+    match b {
+        Body::Nothing => false,
+        Body::FixedRead(_) => false,
+        Body::AnyRead => false,
+        Body::FixedWrite(_) => true,
+        Body::AnyWrite => true,
     }
 }

@@ -1,10 +1,11 @@
 // What a record left, in few characters: the chip, digests, and the driven samples.
 use columns::column;
 use columns::digest_column;
-use judging::Outcome;
 use lines::five;
+use parts::Part;
 use record::Answer;
 use record::Device;
+use record::Outcome;
 use record::answer_number;
 use record::is_refusal;
 use text::put;
@@ -67,7 +68,7 @@ pub fn eight_column(text: &mut [u8], at: usize, bytes: [u8; 8]) -> usize {
 // The chip's n and mode, its flags and registers.
 pub fn state_columns(text: &mut [u8], at: usize, d: Device) -> usize {
     let v = d.volatile;
-    let a = column(text, at, d.n as u64);
+    let a = column(text, at, d.make.n as u64);
     let b = column(text, a, v.mode as u64);
     let c = flags(text, b, d);
     registers(text, c, d)
@@ -75,11 +76,13 @@ pub fn state_columns(text: &mut [u8], at: usize, d: Device) -> usize {
 
 // The letter of the part.
 fn part(text: &mut [u8], at: usize, d: Device) -> usize {
+    let p = Part::of(d.make.part);
+    let letter = match p {
+        Part::M => b'M',
+        Part::P => b'P',
+    };
     let a = put(text, at, b' ');
-    if d.part == 1 {
-        return put(text, a, b'M');
-    }
-    put(text, a, b'P')
+    put(text, a, letter)
 }
 
 // The chip: its part, its state, its serial number.

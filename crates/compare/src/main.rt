@@ -9,14 +9,20 @@ use columns::fill;
 use compact::call_columns;
 use compact::chip;
 use compact::output_columns;
-use judging::Outcome;
 use lines::last_line;
 use lines::verdict;
+use parts::LARGEST_AREA;
 use record::Answer;
+use record::Outcome;
 use session::Session;
 use tape::Entry;
+use tape::LARGEST_MEMORY;
+use tape::MOST_SAMPLES;
 use text::put;
 use text::put_all;
+
+// The bytes of output past the samples, which a call is to leave alone.
+const SPARE: usize = 3;
 
 struct State {
     session: Session,
@@ -37,7 +43,7 @@ fn output_of(
         Entry::Bad(_) => at,
         Entry::Transaction => output_columns(text, at, answer, long, out),
         Entry::PowerCycle => put_all(text, at, b" - - -"),
-        Entry::Fresh { part: _, n: _ } => put_all(text, at, b" - - -"),
+        Entry::Fresh(_) => put_all(text, at, b" - - -"),
     }
 }
 
@@ -118,7 +124,7 @@ fn played(
     }
 }
 
-// The same with an output three bytes longer than the samples.
+// The same with an output that is longer than the samples.
 fn turn(
     st: State,
     before: u64,
@@ -131,10 +137,10 @@ fn turn(
 ) -> State {
     let s = st.session;
     let long = samples_at(tape, s.at);
-    if 4096 < long {
+    if MOST_SAMPLES < long {
         return stopped(s, verdict_bad(text, st.place, s.at));
     }
-    let room = long + 3;
+    let room = long + SPARE;
     if output.len() < room {
         return stopped(s, st.place);
     }
@@ -239,9 +245,9 @@ fn all(tape: &mut [u8], memory: &mut [u8], area: &mut [u8], output: &mut [u8], t
 
 fn main() {
     let mut tape = io::large_buffer();
-    let mut memory = [0u8; 32768];
-    let mut area = [0u8; 256];
-    let mut output = [0u8; 4099];
+    let mut memory = [0u8; LARGEST_MEMORY];
+    let mut area = [0u8; LARGEST_AREA];
+    let mut output = [0u8; MOST_SAMPLES + SPARE];
     let mut text = io::large_buffer();
     all(&mut tape, &mut memory, &mut area, &mut output, &mut text);
 }

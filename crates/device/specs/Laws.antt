@@ -29,11 +29,11 @@ unfolding offered
 offered-reach p n e = le-trans (leb-true n (mostOf p) (both-true (leb (leastOf p) n) (leb n (mostOf p)) e .1)) (most-le p)
 
 -- what the checks of sizes tell
-pub sized-reach : (d : Device) (l : Lent) → sizedFor d l ≡ true → d .n ≤ 24
+pub sized-reach : (d : Device) (l : Lent) → sizedFor d l ≡ true → d .make .n ≤ 24
 unfolding sizedFor
 sized-reach d l e =
-    let p = partOf (d .part) in
-    offered-reach p (d .n) (both-true (offered p (d .n)) _ (both-true (knownPart (d .part)) _ e .1) .0)
+    let p = partOf (d .make .part) in
+    offered-reach p (d .make .n) (both-true (offered p (d .make .n)) _ (both-true (knownPart (d .make .part)) _ e .1) .0)
 
 -- and all that the clocks ask
 pub passed : (d : Device) (l : Lent) (xs out : List ℕ) → sizedFor d l ≡ true → roomFor xs out ≡ true → Passed d xs out

@@ -7,9 +7,8 @@ use Rattle.basis.specs.Unique.{unique}
 use Rattle.record.specs.declared.Device.{Device}
 use Rattle.paper.specs.Storing.{Lent}
 use Rattle.paper.specs.Transaction.{World, transactOf, powerOf}
-use Rattle.judging.specs.declared.Outcome.{Outcome}
-use Rattle.parting.specs.Parting.{worldOf}
-use Rattle.device.specs.Outcomes.{outcomeIn}
+use Rattle.record.specs.declared.Outcome.{Outcome}
+use Rattle.words.specs.Words.{worldOf, outcomeIn}
 
 -- a result, and what is lent as the call leaves it
 pub record Ended : Type 0 where

@@ -2,22 +2,21 @@
 ghost use mathlib.Core.Path.{_≡_};
 ghost use mathlib.Core.List.{[]};
 ghost use lib.ListN.{length, replicate};
-ghost use Rattle.bursts.specs.Lends.{lends};
 ghost use Rattle.paper.specs.Transaction.{sizedFor, roomFor, sampled, transactOf, powerOf};
-ghost use Rattle.parting.specs.Parting.{worldOf};
-ghost use Rattle.device.specs.Outcomes.{unclockedOf};
-use counts::Counts;
-use judging::Outcome;
+ghost use Rattle.words.specs.Words.{lends, worldOf};
+use parts::Family;
 use parts::Part;
 use record::Answer;
 use record::Device;
+use record::Outcome;
+use record::unclocked;
 
 // Whether part and n are in range, and what is lent has the sizes that they give.
 fn is_sized(d: Device, memory: &[u8], area: &[u8]) -> bool
     ensures { λ r. ⌜ r ≡ sizedFor d (lends (now (memory .entry)) (now (area .entry))) ⌝ }
 {
-    let number = d.part;
-    let n = d.n;
+    let number = d.make.part;
+    let n = d.make.n;
     if !Part::is_known(number) {
         return false;
     }
@@ -58,17 +57,6 @@ fn is_sampled(samples: &[u8]) -> bool
     true
 }
 
-// An answer without clocks.
-pub fn unclocked(answer: Answer, device: Device) -> Outcome
-    ensures { λ r. ⌜ r ≡ unclockedOf answer device ⌝ }
-{
-    Outcome {
-        answer,
-        counts: Counts::none(),
-        device,
-    }
-}
-
 // A memory that comes back from a power cycle all 00h.
 pub fn wipe(memory: &mut [u8])
     ensures { λ _. ⌜ now (memory .exit) ≡ replicate (length (now (memory .entry))) 0 ⌝ }
@@ -90,10 +78,10 @@ pub fn power_cycle(d: Device, memory: &mut [u8], area: &[u8]) -> Outcome
     if !values::valid(d) {
         return unclocked(Answer::State, d);
     }
-    let part = Part::of(d.part);
-    match part {
-        Part::M => unclocked(Answer::Done, d.powered()),
-        Part::P => {
+    let part = Part::of(d.make.part);
+    match part.family() {
+        Family::Mram => unclocked(Answer::Done, d.powered()),
+        Family::Psram => {
             wipe(memory);
             unclocked(Answer::Done, d.powered())
         }

@@ -19,6 +19,7 @@ use orders::body_asked;
 use orders::kind_asked;
 use phases::address_length;
 use record::Device;
+use record::Make;
 use record::mode_wires;
 use text::put;
 use text::put_all;
@@ -45,10 +46,11 @@ fn counts_of(o: Order, k: Kind, all: Clocks) -> Counts {
 
 // A chip that hears the command: a fresh one of the part, in the mode.
 fn chip_for(o: Order) -> Device {
-    if o.part == 1 {
-        return Device::fresh_m(10, [0; 4], [0; 8]).in_mode(o.mode);
-    }
-    Device::fresh_p(10, [0; 8]).in_mode(o.mode)
+    let make = Make {
+        part: o.part,
+        n: 10,
+    };
+    Device::fresh(make, [0; 8], [0; 8]).in_mode(o.mode)
 }
 
 // The first line, and the rows on the clocks.

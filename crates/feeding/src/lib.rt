@@ -1,36 +1,32 @@
 // The data phase, and a transaction fed clock by clock: what each clock drives, and what it leaves.
 ghost use mathlib.Core.Path.{_≡_};
+ghost use mathlib.Core.Bool.{cond};
 ghost use Prim.Native.Nat.{_<_, _≤_};
 ghost use lib.ListN.{set};
 ghost use Rattle.counts.specs.Counts.{total};
+ghost use Rattle.paper.specs.InForce.{wiresFor};
 ghost use Rattle.paper.specs.Storing.{stored};
-ghost use Rattle.clocking.specs.Machine.{heldBack, holds, byteIn, held, dataStep, stepOf, driveOf};
-ghost use Rattle.feeding.specs.Views.{takenAs, heldAs, runAs};
+ghost use Rattle.words.specs.Words.{lends, takenAs, heldAs, runAs};
+ghost use Rattle.clocking.specs.Machine.{byteIn, held, dataHeld, dataStep, stepOf, driveOf};
 use bursts::driven_at;
 use bursts::protected_at;
 use bursts::put_at;
-use clocking::Phase;
-use clocking::Progress;
+use clocking::Terms;
 use commands::plans::Body;
-use opcodes::Kind;
+use commands::plans::is_write;
+use progress::Phase;
+use progress::Progress;
+use progress::Tally;
+use record::Aim;
 use record::Device;
-use record::Setting;
 use record::latch_missing;
 use units::Bytes;
 use units::Clocks;
-use units::Wires;
 
-// What the bytes so far say: those of a register write, and whether a byte of a burst was not protected.
-pub struct Taking {
-    pub value: [u8; 8],
-    pub any: bool,
-}
-
-// The same in the middle of a byte, with the number gathered of it.
+// In the middle of a byte: the number gathered of it, and the bytes of a register write so far.
 pub struct Holding {
     pub number: u32,
     pub value: [u8; 8],
-    pub any: bool,
 }
 
 // Byte `i` of eight places.
@@ -45,190 +41,154 @@ fn with_byte(mut value: [u8; 8], i: Bytes, b: u8) -> [u8; 8]
     value
 }
 
-// A whole byte of a burst: skipped where it is protected, held back where the latch is down, or stored.
-fn store_byte(
-    s: Setting,
-    latch: bool,
-    k: Kind,
-    address: u32,
-    i: Bytes,
-    b: u8,
-    value: [u8; 8],
-    any: bool,
-    memory: &mut [u8],
-    area: &mut [u8],
-) -> Taking
-    requires { ⌜ (s .n ≤ 24) × (i .0 ≤ 65535) ⌝ }
-    ensures { λ r. ⌜ takenAs (r .value) (r .any) (now (memory .exit)) (now (area .exit)) ≡ heldBack (holds s latch k) (takenAs value any (now (memory .entry)) (now (area .entry))) (stored s k address i b (takenAs value any (now (memory .entry)) (now (area .entry)))) ⌝ }
+// A whole byte of a burst: held back, skipped where it is protected, or stored.
+fn store_byte(hold: bool, a: Aim, i: Bytes, b: u8, memory: &mut [u8], area: &mut [u8])
+    requires { ⌜ (a .setting .n ≤ 24) × (i .0 ≤ 65535) ⌝ }
+    ensures { λ _. ⌜ lends (now (memory .exit)) (now (area .exit)) ≡ cond hold (lends (now (memory .entry)) (now (area .entry))) (stored a i b (lends (now (memory .entry)) (now (area .entry)))) ⌝ }
 {
-    if protected_at(s, k, address, i) {
-        return Taking { value, any };
+    if hold {
+        return;
     }
-    let part = s.part;
-    if latch_missing(part, s.registers.cr4, latch, k) {
-        return Taking { value, any: true };
+    if protected_at(a, i) {
+        return;
     }
-    put_at(s, k, address, i, b, memory, area);
-    Taking { value, any: true }
+    put_at(a, i, b, memory, area);
 }
 
 // A whole data byte, by what the data of the command is.
 fn take_byte(
-    s: Setting,
-    latch: bool,
-    k: Kind,
-    address: u32,
+    hold: bool,
+    a: Aim,
     i: Bytes,
     b: u8,
     value: [u8; 8],
-    any: bool,
     memory: &mut [u8],
     area: &mut [u8],
-) -> Taking
-    requires { ⌜ (s .n ≤ 24) × (i .0 ≤ 65535) ⌝ }
-    ensures { λ r. ⌜ takenAs (r .value) (r .any) (now (memory .exit)) (now (area .exit)) ≡ byteIn s latch k address i b (takenAs value any (now (memory .entry)) (now (area .entry))) ⌝ }
+) -> [u8; 8]
+    requires { ⌜ (a .setting .n ≤ 24) × (i .0 ≤ 65535) ⌝ }
+    ensures { λ r. ⌜ takenAs r (now (memory .exit)) (now (area .exit)) ≡ byteIn hold a i b (takenAs value (now (memory .entry)) (now (area .entry))) ⌝ }
 {
-    let body = phases::body_for(s, k, address);
+    let s = a.setting;
+    let k = a.kind;
+    let body = phases::body_for(s, k, a.address);
     match body {
-        Body::Nothing => Taking { value, any },
-        Body::FixedRead(_) => Taking { value, any },
-        Body::AnyRead => Taking { value, any },
-        Body::FixedWrite(_) => {
-            let next = with_byte(value, i, b);
-            Taking { value: next, any }
+        Body::Nothing => value,
+        Body::FixedRead(_) => value,
+        Body::AnyRead => value,
+        Body::FixedWrite(_) => with_byte(value, i, b),
+        Body::AnyWrite => {
+            store_byte(hold, a, i, b, memory, area);
+            value
         }
-        Body::AnyWrite => store_byte(s, latch, k, address, i, b, value, any, memory, area),
     }
 }
 
-// Data clock `t`: the bits are gathered, and with a byte's last clock the byte is taken.
-fn hold(
-    s: Setting,
-    latch: bool,
-    k: Kind,
-    address: u32,
-    w: Wires,
+// Data clock `t` of a write: the bits are gathered, and with a byte's last clock the byte is taken.
+fn hold_clock(
+    hold: bool,
+    a: Aim,
     t: Clocks,
     h: Holding,
     x: u8,
     memory: &mut [u8],
     area: &mut [u8],
 ) -> Holding
-    requires { ⌜ (s .n ≤ 24) × (t .0 ≤ 65535) ⌝ }
-    ensures { λ r. ⌜ heldAs (r .number) (r .value) (r .any) (now (memory .exit)) (now (area .exit)) ≡ held w (byteIn s latch k address) t (heldAs (h .number) (h .value) (h .any) (now (memory .entry)) (now (area .entry))) x ⌝ }
+    requires { ⌜ (a .setting .n ≤ 24) × (t .0 ≤ 65535) ⌝ }
+    ensures { λ r. ⌜ heldAs (r .number) (r .value) (now (memory .exit)) (now (area .exit)) ≡ held (wiresFor (a .setting) (a .kind)) (byteIn hold a) t (heldAs (h .number) (h .value) (now (memory .entry)) (now (area .entry))) x ⌝ }
 {
+    let s = a.setting;
+    let k = a.kind;
+    let w = phases::wires_for(s, k);
     let value = h.value;
     let number = wires::shift_in(h.number, x, w);
     let past = units::unfinished(Clocks(t.0 + 1), w);
     if past.0 != 0 {
-        return Holding {
-            number,
-            value,
-            any: h.any,
-        };
+        return Holding { number, value };
     }
     let i = units::clocks_to_bytes(t, w);
-    let g = take_byte(
-        s,
-        latch,
-        k,
-        address,
-        i,
-        (number % 256) as u8,
-        value,
-        h.any,
-        memory,
-        area,
-    );
-    let taken = g.value;
+    let next = take_byte(hold, a, i, (number % 256) as u8, value, memory, area);
     Holding {
         number: 0,
-        value: taken,
-        any: g.any,
+        value: next,
     }
 }
 
-// A clock of the data.
-fn data_step(
-    s: Setting,
-    latch: bool,
-    p: Progress,
-    x: u8,
-    memory: &mut [u8],
-    area: &mut [u8],
-) -> Progress
-    requires { ⌜ (s .n ≤ 24) × (total (p .counts) .0 < 65535) ⌝ }
-    ensures { λ r. ⌜ runAs r (now (memory .exit)) (now (area .exit)) ≡ dataStep s latch (runAs p (now (memory .entry)) (now (area .entry))) x ⌝ }
+// What a data clock leaves of the data: a write gathers its bytes, a read gathers nothing.
+fn hold_data(h: Terms, p: Progress, x: u8, memory: &mut [u8], area: &mut [u8]) -> Holding
+    requires { ⌜ (h .setting .n ≤ 24) × (total (p .tally .counts) .0 < 65535) ⌝ }
+    ensures { λ r. ⌜ heldAs (r .number) (r .value) (now (memory .exit)) (now (area .exit)) ≡ dataHeld h (runAs p (now (memory .entry)) (now (area .entry))) x ⌝ }
 {
+    let s = h.setting;
     let kind = p.kind;
-    let address = p.address;
-    let value = p.value;
-    let before = p.counts;
-    let t = before.body;
-    let counts = before.body_tick();
-    let now = counts.body;
-    let w = phases::wires_for(s, kind);
-    let body = phases::body_for(s, kind, address);
+    let tally = p.tally;
+    let counts = tally.counts;
+    let value = tally.value;
     let start = Holding {
         number: p.number,
         value,
-        any: p.any,
     };
-    let h = hold(s, latch, kind, address, w, t, start, x, memory, area);
-    let taken = h.value;
-    if clocking::is_full(body, w, now) {
-        return Progress {
-            phase: Phase::Rest,
-            kind,
-            address,
-            number: 0,
-            counts,
-            value: taken,
-            any: h.any,
-        };
+    let body = phases::body_for(s, kind, p.address);
+    if !is_write(body) {
+        return start;
     }
-    Progress {
-        phase: Phase::Data,
+    let part = s.part;
+    let hold = latch_missing(part.family(), s.registers.cr4, h.latch, kind);
+    let a = Aim {
+        setting: s,
         kind,
-        address,
-        number: h.number,
-        counts,
-        value: taken,
-        any: h.any,
+        address: p.address,
+    };
+    let t = counts.body;
+    hold_clock(hold, a, t, start, x, memory, area)
+}
+
+// A clock of the data.
+fn data_step(h: Terms, p: Progress, x: u8, memory: &mut [u8], area: &mut [u8]) -> Progress
+    requires { ⌜ (h .setting .n ≤ 24) × (total (p .tally .counts) .0 < 65535) ⌝ }
+    ensures { λ r. ⌜ runAs r (now (memory .exit)) (now (area .exit)) ≡ dataStep h (runAs p (now (memory .entry)) (now (area .entry))) x ⌝ }
+{
+    let s = h.setting;
+    let kind = p.kind;
+    let g = hold_data(h, p, x, memory, area);
+    let value = g.value;
+    let tally = p.tally;
+    let ticked = tally.counts;
+    let counts = ticked.body_tick();
+    let now = counts.body;
+    let next = Tally { counts, value };
+    let body = phases::body_for(s, kind, p.address);
+    if clocking::is_full(body, phases::wires_for(s, kind), now) {
+        return Progress::entered(Phase::Rest, kind, p.address, next);
     }
+    p.onward(g.number, next)
 }
 
 // One clock, whatever its phase.
-pub fn step(
-    s: Setting,
-    latch: bool,
-    p: Progress,
-    x: u8,
-    memory: &mut [u8],
-    area: &mut [u8],
-) -> Progress
-    requires { ⌜ (s .n ≤ 24) × (total (p .counts) .0 < 65535) ⌝ }
-    ensures { λ r. ⌜ runAs r (now (memory .exit)) (now (area .exit)) ≡ stepOf s latch (runAs p (now (memory .entry)) (now (area .entry))) x ⌝ }
+pub fn step(h: Terms, p: Progress, x: u8, memory: &mut [u8], area: &mut [u8]) -> Progress
+    requires { ⌜ (h .setting .n ≤ 24) × (total (p .tally .counts) .0 < 65535) ⌝ }
+    ensures { λ r. ⌜ runAs r (now (memory .exit)) (now (area .exit)) ≡ stepOf h (runAs p (now (memory .entry)) (now (area .entry))) x ⌝ }
 {
+    let s = h.setting;
     let phase = p.phase;
     match phase {
         Phase::Command => clocking::command_step(s, p, x),
         Phase::Address => clocking::address_step(s, p, x),
         Phase::Wait => clocking::wait_step(s, p),
-        Phase::Data => data_step(s, latch, p, x, memory, area),
+        Phase::Data => data_step(h, p, x, memory, area),
         Phase::Rest => clocking::rest_step(p),
     }
 }
 
 // What the device drives in this clock.
 pub fn drive(d: Device, p: Progress, memory: &[u8], area: &[u8]) -> u8
-    requires { ⌜ (d .n ≤ 24) × (total (p .counts) .0 < 65535) ⌝ }
+    requires { ⌜ (d .make .n ≤ 24) × (total (p .tally .counts) .0 < 65535) ⌝ }
     ensures { λ r. ⌜ r ≡ driveOf d (runAs p (now (memory .entry)) (now (area .entry))) ⌝ }
 {
     let phase = p.phase;
     let kind = p.kind;
-    let before = p.counts;
-    let t = before.body;
+    let tally = p.tally;
+    let counts = tally.counts;
+    let t = counts.body;
     match phase {
         Phase::Command => 0,
         Phase::Address => 0,

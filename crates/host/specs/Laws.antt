@@ -1,13 +1,13 @@
 -- Laws of the host half: a refusal leaves all as it was, and what is done was put over the front of the buffer.
 -- Assumes nothing.
-use mathlib.Core.Path.{_≡_, refl, sym, ap, _∙_}
+use mathlib.Core.Path.{_≡_, sym, ap, _∙_}
 use Prim.Native.Nat.{ℕ, _≤_}
 use mathlib.Core.Bool.{true, false}
 use mathlib.Core.List.{List, []}
 use lib.ListN.{length}
 use borrow.Author.Tests.{ltb-false}
 use Rattle.basis.specs.Truth.{neither}
-use Rattle.units.specs.Units.{clocks, bytes, fewer}
+use Rattle.units.specs.Units.{clocks, bytes, fewer, longest}
 use Rattle.opcodes.specs.declared.Kind.{Kind}
 use Rattle.record.specs.declared.Answer.{Answer}
 use Rattle.record.specs.Devices.{modeWires}
@@ -15,10 +15,10 @@ use Rattle.pages.specs.Page.{Page, page, putsOf}
 use Rattle.pages.specs.Laws.{puts-front}
 use Rattle.record.specs.Answers.{isDone}
 use Rattle.paper.specs.Reading.{many}
-use Rattle.theorems.specs.ExactOrder.{clear-rows}
+use Rattle.paper.specs.Laws.{unrefused-when, fit-when}
 use Rattle.paper.specs.Transaction.{over}
-use Rattle.paper.specs.Building.{Order, kindAsked, builtOf, told, buildRows, buildOf}
-use Rattle.paper.specs.Collecting.{collected, collectRows, collectOf}
+use Rattle.paper.specs.Building.{Order, kindAsked, builtOf, told, refusalsOf, buildOf}
+use Rattle.paper.specs.Collecting.{collected, unfitOf, collectOf}
 use Rattle.orders.specs.declared.Order as code
 use Rattle.orders.specs.Orders.{orderAs}
 use Rattle.building.specs.Sizes as building
@@ -54,8 +54,8 @@ module _ (o : Order) (out : List ℕ) {v : Answer} (e : v ≡ building.refusalOf
   build-room : isDone v ≡ true → length xs ≤ length out
   unfolding building.refusalOf
   build-room d =
-      let c = clear-rows (buildRows o (kindAsked o) out) (refl, (refl, (refl, (refl, (refl, (refl, tt)))))) (ap isDone (sym e) ∙ d) in
-      ltb-false (length out) (length xs) (neither (fewer (clocks 65535) (many xs)) _ (c .1 .1 .1 .1 .1 .0) .1)
+      let c = unrefused-when (refusalsOf o (kindAsked o) out) (ap isDone (sym e) ∙ d) in
+      ltb-false (length out) (length xs) (neither (fewer longest (many xs)) _ (c .noRoom) .1)
 
   pub build-done : {n : ℕ} {out′ : List ℕ} → isDone v ≡ true → page n out′ ≡ putsOf xs (page 0 out)
       → record { answer = v; number = clocks n; buffer = out′ } ≡ buildOf o out
@@ -74,8 +74,7 @@ module _ (wires : ℕ) (driven out : List ℕ) {v : Answer} (e : v ≡ collectin
   gather-room : isDone v ≡ true → length bs ≤ length out
   unfolding collecting.refusalOf
   gather-room d =
-      let c = clear-rows (collectRows wires driven out) (refl, (refl, (refl, tt))) (ap isDone (sym e) ∙ d) in
-      ltb-false (length out) (length bs) (c .1 .1 .0)
+      ltb-false (length out) (length bs) (fit-when (unfitOf wires driven out) (ap isDone (sym e) ∙ d) .noRoom)
 
   pub gather-done : {n : ℕ} {out′ : List ℕ} → isDone v ≡ true → page n out′ ≡ putsOf bs (page 0 out)
       → record { answer = v; number = bytes n; buffer = out′ } ≡ collectOf wires driven out

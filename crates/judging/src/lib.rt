@@ -1,29 +1,30 @@
 // The answer of a transaction, judged at its end by the papers' table, and the record that it leaves.
 ghost use mathlib.Core.Path.{_≡_};
 ghost use Prim.Native.Nat.{_≤_};
-ghost use Rattle.paper.specs.Answers.{shortData, longRest, resetting, unarmed, reservedFor, shutData, firstOf, dataRows, rows};
-ghost use Rattle.judging.specs.Finish.{factsIn, nothingLent, outcomeOf};
-use clocking::Progress;
+ghost use Rattle.basis.specs.Decisions.{firstOf};
+ghost use Rattle.counts.specs.Counts.{total};
+ghost use Rattle.record.specs.declared.Answer.the-variants.{Done};
+ghost use Rattle.paper.specs.Table.{dataRows, answerBy};
+ghost use Rattle.paper.specs.Storing.{allShut};
+ghost use Rattle.paper.specs.Answers.{shortData, longRest, resetting, unarmed, reservedFor, shutData, tableOf};
+ghost use Rattle.judging.specs.Finish.{factsIn, outcomeOf};
 use commands::plans::Body;
-use counts::Counts;
 use opcodes::Control;
 use opcodes::Kind;
 use opcodes::Register;
+use opcodes::Target;
 use parts::Part;
+use progress::Progress;
+use record::Aim;
 use record::Answer;
 use record::Device;
+use record::Outcome;
 use record::Setting;
 use record::latch_missing;
+use units::Bytes;
 use units::Clocks;
 use units::Wires;
 use values::reserved;
-
-// What a call answers: the answer, the five counts, and the next record.
-pub struct Outcome {
-    pub answer: Answer,
-    pub counts: Counts,
-    pub device: Device,
-}
 
 // 4 for want of data: a burst has brought no byte yet, a register write not all of its own.
 fn is_short(b: Body, w: Wires, t: Clocks) -> bool
@@ -70,16 +71,8 @@ fn is_reset(k: Kind) -> bool
             Control::Reset => true,
             Control::Toggle => false,
         },
-        Kind::ReadRegister(_) => false,
-        Kind::ReadAny => false,
-        Kind::ReadMode => false,
-        Kind::ReadIdentity => false,
-        Kind::WriteRegister(_) => false,
-        Kind::WriteMode => false,
-        Kind::ReadMemory(_) => false,
-        Kind::WriteMemory(_) => false,
-        Kind::ReadArea => false,
-        Kind::WriteArea => false,
+        Kind::Read(_) => false,
+        Kind::Write(_) => false,
     }
 }
 
@@ -100,45 +93,54 @@ fn is_reserved(part: Part, k: Kind, value: [u8; 8]) -> bool
     match k {
         Kind::Unknown => false,
         Kind::Plain(_) => false,
-        Kind::ReadRegister(_) => false,
-        Kind::ReadAny => false,
-        Kind::ReadMode => false,
-        Kind::ReadIdentity => false,
-        Kind::WriteRegister(r) => reserved(part, r, value),
-        Kind::WriteMode => reserved(part, Register::ModeRegister, value),
-        Kind::ReadMemory(_) => false,
-        Kind::WriteMemory(_) => false,
-        Kind::ReadArea => false,
-        Kind::WriteArea => false,
+        Kind::Read(_) => false,
+        Kind::Write(to) => match to {
+            Target::Register(r) => reserved(part, r, value),
+            Target::Mode => reserved(part, Register::ModeRegister, value),
+            Target::Memory(_) => false,
+            Target::Area => false,
+        },
     }
 }
 
-// A burst of which no byte was open.
-fn is_shut(b: Body, any: bool) -> bool
-    ensures { λ r. ⌜ r ≡ shutData b any ⌝ }
+// Whether all of the first `m` bytes of a write lie at protected places.
+fn is_all_shut(a: Aim, m: Bytes) -> bool
+    requires { ⌜ (a .setting .n ≤ 24) × (m .0 ≤ 65535) ⌝ }
+    ensures { λ r. ⌜ r ≡ allShut a m ⌝ }
+{
+    let shut = bursts::shut_among(a, m);
+    shut.0 == m.0
+}
+
+// 9: a burst of which no byte was open.
+fn is_shut(b: Body, a: Aim, m: Bytes) -> bool
+    requires { ⌜ (a .setting .n ≤ 24) × (m .0 ≤ 65535) ⌝ }
+    ensures { λ r. ⌜ r ≡ shutData b a m ⌝ }
 {
     match b {
         Body::Nothing => false,
         Body::FixedRead(_) => false,
         Body::AnyRead => false,
         Body::FixedWrite(_) => false,
-        Body::AnyWrite => !any,
+        Body::AnyWrite => is_all_shut(a, m),
     }
 }
 
 // The rows of the table that look at the data.
 fn judge_data(s: Setting, armed: bool, latch: bool, p: Progress) -> Answer
-    requires { ⌜ s .n ≤ 24 ⌝ }
-    ensures { λ r. ⌜ r ≡ firstOf (dataRows s armed latch (factsIn p nothingLent)) ⌝ }
+    requires { ⌜ (s .n ≤ 24) × (total (p .tally .counts) .0 ≤ 65535) ⌝ }
+    ensures { λ r. ⌜ r ≡ firstOf Done (dataRows (tableOf s armed latch (factsIn p))) ⌝ }
 {
     let k = p.kind;
     let part = s.part;
-    let value = p.value;
-    let counts = p.counts;
+    let tally = p.tally;
+    let value = tally.value;
+    let counts = tally.counts;
     let clocks = counts.body;
     let rest = counts.rest;
+    let w = phases::wires_for(s, k);
     let b = phases::body_for(s, k, p.address);
-    if is_short(b, phases::wires_for(s, k), clocks) {
+    if is_short(b, w, clocks) {
         return Answer::Short;
     }
     if is_long(b, rest) {
@@ -147,13 +149,18 @@ fn judge_data(s: Setting, armed: bool, latch: bool, p: Progress) -> Answer
     if is_unarmed(armed, k) {
         return Answer::Unarmed;
     }
-    if latch_missing(part, s.registers.cr4, latch, k) {
+    if latch_missing(part.family(), s.registers.cr4, latch, k) {
         return Answer::Latch;
     }
     if is_reserved(part, k, value) {
         return Answer::Reserved;
     }
-    if is_shut(b, p.any) {
+    let a = Aim {
+        setting: s,
+        kind: k,
+        address: p.address,
+    };
+    if is_shut(b, a, units::clocks_to_bytes(clocks, w)) {
         return Answer::Protected;
     }
     Answer::Done
@@ -161,11 +168,12 @@ fn judge_data(s: Setting, armed: bool, latch: bool, p: Progress) -> Answer
 
 // The rows that are decided before any data, and then those.
 fn judge_in(s: Setting, armed: bool, latch: bool, p: Progress) -> Answer
-    requires { ⌜ s .n ≤ 24 ⌝ }
-    ensures { λ r. ⌜ r ≡ firstOf (rows s armed latch (factsIn p nothingLent)) ⌝ }
+    requires { ⌜ (s .n ≤ 24) × (total (p .tally .counts) .0 ≤ 65535) ⌝ }
+    ensures { λ r. ⌜ r ≡ answerBy (tableOf s armed latch (factsIn p)) ⌝ }
 {
     let k = p.kind;
-    let counts = p.counts;
+    let tally = p.tally;
+    let counts = tally.counts;
     if counts.command.0 < phases::command_clocks(s).0 {
         return Answer::Short;
     }
@@ -186,13 +194,14 @@ fn judge_in(s: Setting, armed: bool, latch: bool, p: Progress) -> Answer
 
 // The end of a transaction: its answer, its counts, and the record that it leaves.
 pub fn finish(d: Device, p: Progress) -> Outcome
-    requires { ⌜ d .n ≤ 24 ⌝ }
+    requires { ⌜ (d .make .n ≤ 24) × (total (p .tally .counts) .0 ≤ 65535) ⌝ }
     ensures { λ r. ⌜ r ≡ outcomeOf d p ⌝ }
 {
     let s = d.setting();
     let kind = p.kind;
-    let value = p.value;
-    let counts = p.counts;
+    let tally = p.tally;
+    let value = tally.value;
+    let counts = tally.counts;
     let answer = judge_in(s, d.volatile.armed, d.volatile.latch, p);
     let device = d.settled(kind, value, answer);
     Outcome {

@@ -29,6 +29,6 @@ pub fn verdict(text: &mut [u8], at: usize, e: Entry, before: u64, offset: usize)
         Entry::Bad(_) => last_line(text, at, b"bad", offset as u64),
         Entry::Transaction => last_line(text, at, b"bad", offset as u64),
         Entry::PowerCycle => last_line(text, at, b"bad", offset as u64),
-        Entry::Fresh { part: _, n: _ } => last_line(text, at, b"bad", offset as u64),
+        Entry::Fresh(_) => last_line(text, at, b"bad", offset as u64),
     }
 }

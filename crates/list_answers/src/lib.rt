@@ -6,6 +6,7 @@ use list_views::byte_at;
 use list_views::first_above;
 use list_views::sum;
 use opcodes::Kind;
+use opcodes::Target;
 use record::Answer;
 use record::answer_number;
 use text::put_all;
@@ -37,16 +38,13 @@ fn lacking(k: Kind) -> usize {
     match k {
         Kind::Unknown => 0,
         Kind::Plain(_) => 0,
-        Kind::ReadRegister(_) => 0,
-        Kind::ReadAny => 0,
-        Kind::ReadMode => 0,
-        Kind::ReadIdentity => 0,
-        Kind::WriteRegister(_) => 3,
-        Kind::WriteMode => 4,
-        Kind::ReadMemory(_) => 0,
-        Kind::WriteMemory(_) => 5,
-        Kind::ReadArea => 0,
-        Kind::WriteArea => 5,
+        Kind::Read(_) => 0,
+        Kind::Write(to) => match to {
+            Target::Register(_) => 3,
+            Target::Mode => 4,
+            Target::Memory(_) => 5,
+            Target::Area => 5,
+        },
     }
 }
 
@@ -108,16 +106,13 @@ fn outcome(k: Kind) -> usize {
     match k {
         Kind::Unknown => 0,
         Kind::Plain(_) => 1,
-        Kind::ReadRegister(_) => 2,
-        Kind::ReadAny => 2,
-        Kind::ReadMode => 2,
-        Kind::ReadIdentity => 2,
-        Kind::WriteRegister(_) => 3,
-        Kind::WriteMode => 3,
-        Kind::ReadMemory(_) => 2,
-        Kind::WriteMemory(_) => 4,
-        Kind::ReadArea => 2,
-        Kind::WriteArea => 4,
+        Kind::Read(_) => 2,
+        Kind::Write(to) => match to {
+            Target::Register(_) => 3,
+            Target::Mode => 3,
+            Target::Memory(_) => 4,
+            Target::Area => 4,
+        },
     }
 }
 

@@ -179,16 +179,8 @@ fn is_write(k: Kind) -> bool {
     match k {
         Kind::Unknown => false,
         Kind::Plain(_) => false,
-        Kind::ReadRegister(_) => false,
-        Kind::ReadAny => false,
-        Kind::ReadMode => false,
-        Kind::ReadIdentity => false,
-        Kind::WriteRegister(_) => true,
-        Kind::WriteMode => true,
-        Kind::ReadMemory(_) => false,
-        Kind::WriteMemory(_) => true,
-        Kind::ReadArea => false,
-        Kind::WriteArea => true,
+        Kind::Read(_) => false,
+        Kind::Write(_) => true,
     }
 }
 

@@ -27,7 +27,7 @@ fn reason(e: Entry) -> usize {
         },
         Entry::Transaction => 5,
         Entry::PowerCycle => 6,
-        Entry::Fresh { part: _, n: _ } => 7,
+        Entry::Fresh(_) => 7,
     }
 }
 

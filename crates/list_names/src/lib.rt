@@ -4,6 +4,8 @@ use opcodes::Control;
 use opcodes::Kind;
 use opcodes::Reading;
 use opcodes::Register;
+use opcodes::Source;
+use opcodes::Target;
 use opcodes::Writing;
 use parts::Part;
 use text::put_word;
@@ -76,38 +78,55 @@ fn writing(w: Writing) -> usize {
     }
 }
 
+// Of the mode register and the identity it is the same whether or not an address goes with them.
+fn source(s: Source) -> usize {
+    match s {
+        Source::Register(r) => register(r),
+        Source::Map => 29,
+        Source::Mode => register(Register::ModeRegister),
+        Source::Identity => register(Register::LongIdentity),
+        Source::Memory(r) => reading(r),
+        Source::Area => 30,
+    }
+}
+
+fn target(t: Target) -> usize {
+    match t {
+        Target::Register(r) => register(r),
+        Target::Mode => register(Register::ModeRegister),
+        Target::Memory(w) => writing(w),
+        Target::Area => 30,
+    }
+}
+
 fn subject(k: Kind) -> usize {
     match k {
         Kind::Unknown => 0,
         Kind::Plain(c) => control(c),
-        Kind::ReadRegister(r) => register(r),
-        Kind::ReadAny => 29,
-        Kind::ReadMode => 22,
-        Kind::ReadIdentity => 19,
-        Kind::WriteRegister(r) => register(r),
-        Kind::WriteMode => 22,
-        Kind::ReadMemory(r) => reading(r),
-        Kind::WriteMemory(w) => writing(w),
-        Kind::ReadArea => 30,
-        Kind::WriteArea => 30,
+        Kind::Read(s) => source(s),
+        Kind::Write(t) => target(t),
     }
 }
 
-// What stands before it.
+// What stands before it. The names of the memory commands say themselves whether they read or write.
 fn front(k: Kind) -> usize {
     match k {
         Kind::Unknown => 0,
         Kind::Plain(_) => 1,
-        Kind::ReadRegister(_) => 2,
-        Kind::ReadAny => 2,
-        Kind::ReadMode => 2,
-        Kind::ReadIdentity => 2,
-        Kind::WriteRegister(_) => 3,
-        Kind::WriteMode => 3,
-        Kind::ReadMemory(_) => 1,
-        Kind::WriteMemory(_) => 1,
-        Kind::ReadArea => 2,
-        Kind::WriteArea => 3,
+        Kind::Read(s) => match s {
+            Source::Register(_) => 2,
+            Source::Map => 2,
+            Source::Mode => 2,
+            Source::Identity => 2,
+            Source::Memory(_) => 1,
+            Source::Area => 2,
+        },
+        Kind::Write(t) => match t {
+            Target::Register(_) => 3,
+            Target::Mode => 3,
+            Target::Memory(_) => 1,
+            Target::Area => 3,
+        },
     }
 }
 

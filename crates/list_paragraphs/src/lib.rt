@@ -1,6 +1,5 @@
 // The paragraph of a record: what it is, its clocks and data, what it changed, and its answer.
 use counts::Counts;
-use judging::Outcome;
 use list_answers::put_answer;
 use list_answers::put_rule;
 use list_changes::after;
@@ -16,6 +15,8 @@ use list_views::view_of;
 use parts::Part;
 use record::Answer;
 use record::Device;
+use record::Make;
+use record::Outcome;
 use tape::Entry;
 use tape::Found;
 use text::put_all;
@@ -32,11 +33,11 @@ pub fn put_head(page: &mut [u8], at: usize, k: u64, offset: usize) -> usize {
     put_all(page, d, b": ")
 }
 
-fn put_chip(page: &mut [u8], at: usize, part: u8, n: u8) -> usize {
+fn put_chip(page: &mut [u8], at: usize, make: Make) -> usize {
     let a = put_all(page, at, b"fresh chip, ");
-    let b = put_part(page, a, Part::of(part));
+    let b = put_part(page, a, Part::of(make.part));
     let c = put_all(page, b, b", n = ");
-    let d = put_decimal(page, c, n as u64);
+    let d = put_decimal(page, c, make.n as u64);
     put_all(page, d, b"\n")
 }
 
@@ -49,8 +50,8 @@ fn put_sizes(page: &mut [u8], at: usize, memory: Bytes, area: Bytes) -> usize {
 }
 
 // A fresh chip, and the bytes that it has.
-fn put_fresh(page: &mut [u8], at: usize, part: u8, n: u8, memory: &[u8], area: &[u8]) -> usize {
-    let a = put_chip(page, at, part, n);
+fn put_fresh(page: &mut [u8], at: usize, make: Make, memory: &[u8], area: &[u8]) -> usize {
+    let a = put_chip(page, at, make);
     let b = put_sizes(page, a, Bytes(memory.len()), Bytes(area.len()));
     let c = put_answer(page, b, Answer::Done);
     put_all(
@@ -201,6 +202,6 @@ pub fn put_played(
             area,
         ),
         Entry::PowerCycle => put_power(page, at, d, o, memory0, memory, area0, area),
-        Entry::Fresh { part, n } => put_fresh(page, at, part, n, memory, area),
+        Entry::Fresh(make) => put_fresh(page, at, make, memory, area),
     }
 }

@@ -80,7 +80,7 @@ fn kind_for(s: Setting, whole: bool, opcode: u8) -> Kind {
     }
     let part = s.part;
     let w = s.wires;
-    opcodes::kind_of(part, w, opcode)
+    opcodes::kind_of(part.family(), w, opcode)
 }
 
 // Whether the command has an address and all its bits came.

@@ -3,8 +3,10 @@
 use list_endings::put_last;
 use list_paragraphs::put_head;
 use list_paragraphs::put_played;
+use parts::LARGEST_AREA;
 use session::Session;
 use session::Turn;
+use tape::LARGEST_MEMORY;
 use text::put_all;
 use units::Bytes;
 
@@ -159,11 +161,11 @@ fn put_tape(page: &mut [u8], bytes: Bytes) -> usize {
 }
 
 fn list(tape: &[u8]) {
-    let mut memory = [0u8; 32768];
-    let mut area = [0u8; 256];
+    let mut memory = [0u8; LARGEST_MEMORY];
+    let mut area = [0u8; LARGEST_AREA];
     let mut output = io::buffer();
-    let mut memory0 = [0u8; 32768];
-    let mut area0 = [0u8; 256];
+    let mut memory0 = [0u8; LARGEST_MEMORY];
+    let mut area0 = [0u8; LARGEST_AREA];
     let mut page = io::large_buffer();
     let to = put_tape(&mut page, Bytes(tape.len()));
     run(

@@ -1,24 +1,26 @@
 -- The opcode decision. Document 01, "Commands of part M" and "Commands of part P": the rows stand in the papers' order, each with its opcode, its
--- meaning and the bus modes in which the part has it. What no row has is unknown, answer 5.
+-- meaning and the bus modes in which the family has it. What no row has is unknown, answer 5.
 use Prim.Native.Nat.{ℕ}
 use mathlib.Core.Bool.{Bool, true, false, cond}
 use mathlib.Core.List.{List, [], _∷_}
 use Rattle.basis.specs.Rows.{look}
 use Rattle.units.specs.declared.Wires.{Wires}
 use Rattle.units.specs.declared.Wires.the-variants as On
-use Rattle.parts.specs.declared.Part.{Part}
-use Rattle.parts.specs.declared.Part.the-variants.{M, P}
+use Rattle.parts.specs.declared.Family.{Family}
+use Rattle.parts.specs.declared.Family.the-variants.{Mram, Psram}
 use Rattle.opcodes.specs.declared.Control.the-variants.{NoOperation, WriteEnable, WriteDisable, ToOne, ToTwo, ToFour, Sleep, Wake, ResetEnable, Reset, Toggle}
 use Rattle.opcodes.specs.declared.Register.the-variants.{Status, AreaProtection, Configuration1, Configuration2, Configuration3, Configuration4, Configurations, Identity, Unique, Serial}
 use Rattle.opcodes.specs.declared.Reading.the-variants as Reads
 use Rattle.opcodes.specs.declared.Writing.the-variants as Writes
+use Rattle.opcodes.specs.declared.Source.the-variants as Source
+use Rattle.opcodes.specs.declared.Target.the-variants as Target
 use Rattle.opcodes.specs.declared.Kind.{Kind}
-use Rattle.opcodes.specs.declared.Kind.the-variants.{Unknown, Plain, ReadRegister, ReadAny, ReadMode, ReadIdentity, WriteRegister, WriteMode, ReadMemory, WriteMemory, ReadArea, WriteArea}
+use Rattle.opcodes.specs.declared.Kind.the-variants.{Unknown, Plain, Read, Write}
 use Rattle.opcodes.specs.declared.Modes.{Modes}
 use Rattle.opcodes.specs.declared.Row.{Row}
 use Rattle.opcodes.specs.declared.Modes.the-variants.{Never, One, Four, OneTwo, OneFour, TwoFour, Always}
 
--- a row's meaning and the bus modes in which the part has it
+-- a row's meaning and the bus modes in which the family has it
 pub record Entry : Type 0 where
   pub kind : Kind
   pub modes : Modes
@@ -26,9 +28,9 @@ pub record Entry : Type 0 where
 abbrev row : ℕ → Kind → Modes → ℕ × Entry
 row opcode k m = (opcode, record { kind = k; modes = m })
 
--- Part M. The write commands' opcodes come from the makers' instruction tables (DECISIONS.md, "Opcodes that the scan garbles").
-abbrev pub rowsM : List (ℕ × Entry)
-rowsM =
+-- The MRAM. The write commands' opcodes come from the makers' instruction tables (DECISIONS.md, "Opcodes that the scan garbles").
+abbrev pub mramRows : List (ℕ × Entry)
+mramRows =
     row 0x00 (Plain NoOperation) Always
     ∷ row 0x06 (Plain WriteEnable) Always
     ∷ row 0x04 (Plain WriteDisable) Always
@@ -39,40 +41,40 @@ rowsM =
     ∷ row 0xAB (Plain Wake) Always
     ∷ row 0x66 (Plain ResetEnable) Always
     ∷ row 0x99 (Plain Reset) Always
-    ∷ row 0x05 (ReadRegister Status) Always
-    ∷ row 0x14 (ReadRegister AreaProtection) Always
-    ∷ row 0x35 (ReadRegister Configuration1) Always
-    ∷ row 0x3F (ReadRegister Configuration2) Always
-    ∷ row 0x44 (ReadRegister Configuration3) Always
-    ∷ row 0x45 (ReadRegister Configuration4) Always
-    ∷ row 0x46 (ReadRegister Configurations) Always
-    ∷ row 0x9F (ReadRegister Identity) Always
-    ∷ row 0x4C (ReadRegister Unique) Always
-    ∷ row 0xC3 (ReadRegister Serial) Always
-    ∷ row 0x65 ReadAny Always
-    ∷ row 0x03 (ReadMemory Reads.Plain) One
-    ∷ row 0x4B ReadArea One
-    ∷ row 0x01 (WriteRegister Status) Always
-    ∷ row 0x87 (WriteRegister Configurations) Always
-    ∷ row 0xC2 (WriteRegister Serial) Always
-    ∷ row 0x1A (WriteRegister AreaProtection) Always
-    ∷ row 0x02 (WriteMemory Writes.Plain) Always
-    ∷ row 0x42 WriteArea One
+    ∷ row 0x05 (Read (Source.Register Status)) Always
+    ∷ row 0x14 (Read (Source.Register AreaProtection)) Always
+    ∷ row 0x35 (Read (Source.Register Configuration1)) Always
+    ∷ row 0x3F (Read (Source.Register Configuration2)) Always
+    ∷ row 0x44 (Read (Source.Register Configuration3)) Always
+    ∷ row 0x45 (Read (Source.Register Configuration4)) Always
+    ∷ row 0x46 (Read (Source.Register Configurations)) Always
+    ∷ row 0x9F (Read (Source.Register Identity)) Always
+    ∷ row 0x4C (Read (Source.Register Unique)) Always
+    ∷ row 0xC3 (Read (Source.Register Serial)) Always
+    ∷ row 0x65 (Read Source.Map) Always
+    ∷ row 0x03 (Read (Source.Memory Reads.Plain)) One
+    ∷ row 0x4B (Read Source.Area) One
+    ∷ row 0x01 (Write (Target.Register Status)) Always
+    ∷ row 0x87 (Write (Target.Register Configurations)) Always
+    ∷ row 0xC2 (Write (Target.Register Serial)) Always
+    ∷ row 0x1A (Write (Target.Register AreaProtection)) Always
+    ∷ row 0x02 (Write (Target.Memory Writes.Plain)) Always
+    ∷ row 0x42 (Write Target.Area) One
     ∷ []
 
--- Part P, which has bus modes of one and of four wires.
-abbrev pub rowsP : List (ℕ × Entry)
-rowsP =
-    row 0x03 (ReadMemory Reads.Plain) One
-    ∷ row 0x0B (ReadMemory Reads.Fast) OneFour
-    ∷ row 0xEB (ReadMemory Reads.Quad) OneFour
-    ∷ row 0x8B (ReadMemory Reads.Wrapped) OneFour
-    ∷ row 0x02 (WriteMemory Writes.Plain) OneFour
-    ∷ row 0x82 (WriteMemory Writes.Plain) OneFour
-    ∷ row 0x38 (WriteMemory Writes.Quad) OneFour
-    ∷ row 0xB5 ReadMode OneFour
-    ∷ row 0xB1 WriteMode OneFour
-    ∷ row 0x9F ReadIdentity One
+-- The PSRAM, which has bus modes of one and of four wires.
+abbrev pub psramRows : List (ℕ × Entry)
+psramRows =
+    row 0x03 (Read (Source.Memory Reads.Plain)) One
+    ∷ row 0x0B (Read (Source.Memory Reads.Fast)) OneFour
+    ∷ row 0xEB (Read (Source.Memory Reads.Quad)) OneFour
+    ∷ row 0x8B (Read (Source.Memory Reads.Wrapped)) OneFour
+    ∷ row 0x02 (Write (Target.Memory Writes.Plain)) OneFour
+    ∷ row 0x82 (Write (Target.Memory Writes.Plain)) OneFour
+    ∷ row 0x38 (Write (Target.Memory Writes.Quad)) OneFour
+    ∷ row 0xB5 (Read Source.Mode) OneFour
+    ∷ row 0xB1 (Write Target.Mode) OneFour
+    ∷ row 0x9F (Read Source.Identity) One
     ∷ row 0x35 (Plain ToFour) One
     ∷ row 0xF5 (Plain ToOne) Four
     ∷ row 0x66 (Plain ResetEnable) OneFour
@@ -80,16 +82,16 @@ rowsP =
     ∷ row 0xC0 (Plain Toggle) OneFour
     ∷ []
 
-abbrev pub rowsOf : Part → List (ℕ × Entry)
-rowsOf M = rowsM
-rowsOf P = rowsP
+abbrev pub rowsOf : Family → List (ℕ × Entry)
+rowsOf Mram = mramRows
+rowsOf Psram = psramRows
 
 -- what stands for an opcode that no row has
 abbrev pub noEntry : Entry
 noEntry = record { kind = Unknown; modes = Never }
 
-unfoldable pub entryOf : Part → ℕ → Entry
-entryOf p opcode = look noEntry (rowsOf p) opcode
+unfoldable pub entryOf : Family → ℕ → Entry
+entryOf f opcode = look noEntry (rowsOf f) opcode
 
 -- the bus mode is one of the row's
 abbrev pub inModes : Modes → Wires → Bool
@@ -114,11 +116,11 @@ inModes TwoFour On.Four = true
 abbrev pub kindIn : Kind → Modes → Wires → Kind
 kindIn k m w = cond (inModes m w) k Unknown
 
--- THE DECISION: the kind of a command for part, bus mode and opcode
-abbrev pub kindOf : Part → Wires → ℕ → Kind
-kindOf p w opcode = kindIn (entryOf p opcode .kind) (entryOf p opcode .modes) w
+-- THE DECISION: the kind of a command for family, bus mode and opcode
+abbrev pub kindOf : Family → Wires → ℕ → Kind
+kindOf f w opcode = kindIn (entryOf f opcode .kind) (entryOf f opcode .modes) w
 
--- both parts' entries of an opcode, side by side
+-- both families' entries of an opcode, side by side
 abbrev pub rowOf : ℕ → Row
 rowOf opcode =
-    record { kindm = entryOf M opcode .kind; modesm = entryOf M opcode .modes; kindp = entryOf P opcode .kind; modesp = entryOf P opcode .modes }
+    record { mram = entryOf Mram opcode .kind; «mram_modes» = entryOf Mram opcode .modes; psram = entryOf Psram opcode .kind; «psram_modes» = entryOf Psram opcode .modes }

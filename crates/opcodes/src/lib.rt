@@ -1,7 +1,7 @@
-// The decision over the opcode byte: the kind of a command for part and bus mode.
+// The decision over the opcode byte: the kind of a command for family and bus mode.
 ghost use mathlib.Core.Path.{_≡_};
 ghost use Rattle.opcodes.specs.Kinds.{rowOf, inModes, kindIn, kindOf};
-use parts::Part;
+use parts::Family;
 use units::Wires;
 
 // A command without data.
@@ -20,7 +20,7 @@ pub enum Control {
 }
 
 // What a register command reads or writes. `Configurations` is all four together; `LongIdentity` is the
-// eight bytes of part P.
+// eight bytes of the PSRAM.
 pub enum Register {
     Status,
     AreaProtection,
@@ -49,23 +49,34 @@ pub enum Writing {
     Quad,
 }
 
-// What a command does. The registers of part P that are addressed have kinds of their own.
+// What a command reads. The PSRAM's mode register and its identity are read with an address, so they stand
+// apart from the registers without one; `Map` is the register that an address names.
+pub enum Source {
+    Register(Register),
+    Map,
+    Mode,
+    Identity,
+    Memory(Reading),
+    Area,
+}
+
+// What a command writes.
+pub enum Target {
+    Register(Register),
+    Mode,
+    Memory(Writing),
+    Area,
+}
+
+// What a command does.
 pub enum Kind {
     Unknown,
     Plain(Control),
-    ReadRegister(Register),
-    ReadAny,
-    ReadMode,
-    ReadIdentity,
-    WriteRegister(Register),
-    WriteMode,
-    ReadMemory(Reading),
-    WriteMemory(Writing),
-    ReadArea,
-    WriteArea,
+    Read(Source),
+    Write(Target),
 }
 
-// The bus modes, by their number of wires, in which a part has an opcode.
+// The bus modes, by their number of wires, in which a family has an opcode.
 pub enum Modes {
     Never,
     One,
@@ -76,241 +87,241 @@ pub enum Modes {
     Always,
 }
 
-// What an opcode is on part M and on part P, and in which bus modes.
+// What an opcode is on the MRAM and on the PSRAM, and in which bus modes.
 pub struct Row {
-    pub kindm: Kind,
-    pub modesm: Modes,
-    pub kindp: Kind,
-    pub modesp: Modes,
+    pub mram: Kind,
+    pub mram_modes: Modes,
+    pub psram: Kind,
+    pub psram_modes: Modes,
 }
 
 // Every opcode has its place here: the rows first, in the papers' order, and then the ranges that
-// neither part has.
+// neither family has.
 fn row_of(opcode: u8) -> Row
     ensures { λ r. ⌜ r ≡ rowOf opcode ⌝ }
 {
     match opcode {
         0x00 => Row {
-            kindm: Kind::Plain(Control::NoOperation),
-            modesm: Modes::Always,
-            kindp: Kind::Unknown,
-            modesp: Modes::Never,
+            mram: Kind::Plain(Control::NoOperation),
+            mram_modes: Modes::Always,
+            psram: Kind::Unknown,
+            psram_modes: Modes::Never,
         },
         0x06 => Row {
-            kindm: Kind::Plain(Control::WriteEnable),
-            modesm: Modes::Always,
-            kindp: Kind::Unknown,
-            modesp: Modes::Never,
+            mram: Kind::Plain(Control::WriteEnable),
+            mram_modes: Modes::Always,
+            psram: Kind::Unknown,
+            psram_modes: Modes::Never,
         },
         0x04 => Row {
-            kindm: Kind::Plain(Control::WriteDisable),
-            modesm: Modes::Always,
-            kindp: Kind::Unknown,
-            modesp: Modes::Never,
+            mram: Kind::Plain(Control::WriteDisable),
+            mram_modes: Modes::Always,
+            psram: Kind::Unknown,
+            psram_modes: Modes::Never,
         },
         0x37 => Row {
-            kindm: Kind::Plain(Control::ToTwo),
-            modesm: Modes::OneFour,
-            kindp: Kind::Unknown,
-            modesp: Modes::Never,
+            mram: Kind::Plain(Control::ToTwo),
+            mram_modes: Modes::OneFour,
+            psram: Kind::Unknown,
+            psram_modes: Modes::Never,
         },
         0x38 => Row {
-            kindm: Kind::Plain(Control::ToFour),
-            modesm: Modes::OneTwo,
-            kindp: Kind::WriteMemory(Writing::Quad),
-            modesp: Modes::OneFour,
+            mram: Kind::Plain(Control::ToFour),
+            mram_modes: Modes::OneTwo,
+            psram: Kind::Write(Target::Memory(Writing::Quad)),
+            psram_modes: Modes::OneFour,
         },
         0xFF => Row {
-            kindm: Kind::Plain(Control::ToOne),
-            modesm: Modes::TwoFour,
-            kindp: Kind::Unknown,
-            modesp: Modes::Never,
+            mram: Kind::Plain(Control::ToOne),
+            mram_modes: Modes::TwoFour,
+            psram: Kind::Unknown,
+            psram_modes: Modes::Never,
         },
         0xB9 => Row {
-            kindm: Kind::Plain(Control::Sleep),
-            modesm: Modes::Always,
-            kindp: Kind::Unknown,
-            modesp: Modes::Never,
+            mram: Kind::Plain(Control::Sleep),
+            mram_modes: Modes::Always,
+            psram: Kind::Unknown,
+            psram_modes: Modes::Never,
         },
         0xAB => Row {
-            kindm: Kind::Plain(Control::Wake),
-            modesm: Modes::Always,
-            kindp: Kind::Unknown,
-            modesp: Modes::Never,
+            mram: Kind::Plain(Control::Wake),
+            mram_modes: Modes::Always,
+            psram: Kind::Unknown,
+            psram_modes: Modes::Never,
         },
         0x66 => Row {
-            kindm: Kind::Plain(Control::ResetEnable),
-            modesm: Modes::Always,
-            kindp: Kind::Plain(Control::ResetEnable),
-            modesp: Modes::OneFour,
+            mram: Kind::Plain(Control::ResetEnable),
+            mram_modes: Modes::Always,
+            psram: Kind::Plain(Control::ResetEnable),
+            psram_modes: Modes::OneFour,
         },
         0x99 => Row {
-            kindm: Kind::Plain(Control::Reset),
-            modesm: Modes::Always,
-            kindp: Kind::Plain(Control::Reset),
-            modesp: Modes::OneFour,
+            mram: Kind::Plain(Control::Reset),
+            mram_modes: Modes::Always,
+            psram: Kind::Plain(Control::Reset),
+            psram_modes: Modes::OneFour,
         },
         0x05 => Row {
-            kindm: Kind::ReadRegister(Register::Status),
-            modesm: Modes::Always,
-            kindp: Kind::Unknown,
-            modesp: Modes::Never,
+            mram: Kind::Read(Source::Register(Register::Status)),
+            mram_modes: Modes::Always,
+            psram: Kind::Unknown,
+            psram_modes: Modes::Never,
         },
         0x14 => Row {
-            kindm: Kind::ReadRegister(Register::AreaProtection),
-            modesm: Modes::Always,
-            kindp: Kind::Unknown,
-            modesp: Modes::Never,
+            mram: Kind::Read(Source::Register(Register::AreaProtection)),
+            mram_modes: Modes::Always,
+            psram: Kind::Unknown,
+            psram_modes: Modes::Never,
         },
         0x35 => Row {
-            kindm: Kind::ReadRegister(Register::Configuration1),
-            modesm: Modes::Always,
-            kindp: Kind::Plain(Control::ToFour),
-            modesp: Modes::One,
+            mram: Kind::Read(Source::Register(Register::Configuration1)),
+            mram_modes: Modes::Always,
+            psram: Kind::Plain(Control::ToFour),
+            psram_modes: Modes::One,
         },
         0x3F => Row {
-            kindm: Kind::ReadRegister(Register::Configuration2),
-            modesm: Modes::Always,
-            kindp: Kind::Unknown,
-            modesp: Modes::Never,
+            mram: Kind::Read(Source::Register(Register::Configuration2)),
+            mram_modes: Modes::Always,
+            psram: Kind::Unknown,
+            psram_modes: Modes::Never,
         },
         0x44 => Row {
-            kindm: Kind::ReadRegister(Register::Configuration3),
-            modesm: Modes::Always,
-            kindp: Kind::Unknown,
-            modesp: Modes::Never,
+            mram: Kind::Read(Source::Register(Register::Configuration3)),
+            mram_modes: Modes::Always,
+            psram: Kind::Unknown,
+            psram_modes: Modes::Never,
         },
         0x45 => Row {
-            kindm: Kind::ReadRegister(Register::Configuration4),
-            modesm: Modes::Always,
-            kindp: Kind::Unknown,
-            modesp: Modes::Never,
+            mram: Kind::Read(Source::Register(Register::Configuration4)),
+            mram_modes: Modes::Always,
+            psram: Kind::Unknown,
+            psram_modes: Modes::Never,
         },
         0x46 => Row {
-            kindm: Kind::ReadRegister(Register::Configurations),
-            modesm: Modes::Always,
-            kindp: Kind::Unknown,
-            modesp: Modes::Never,
+            mram: Kind::Read(Source::Register(Register::Configurations)),
+            mram_modes: Modes::Always,
+            psram: Kind::Unknown,
+            psram_modes: Modes::Never,
         },
         0x9F => Row {
-            kindm: Kind::ReadRegister(Register::Identity),
-            modesm: Modes::Always,
-            kindp: Kind::ReadIdentity,
-            modesp: Modes::One,
+            mram: Kind::Read(Source::Register(Register::Identity)),
+            mram_modes: Modes::Always,
+            psram: Kind::Read(Source::Identity),
+            psram_modes: Modes::One,
         },
         0x4C => Row {
-            kindm: Kind::ReadRegister(Register::Unique),
-            modesm: Modes::Always,
-            kindp: Kind::Unknown,
-            modesp: Modes::Never,
+            mram: Kind::Read(Source::Register(Register::Unique)),
+            mram_modes: Modes::Always,
+            psram: Kind::Unknown,
+            psram_modes: Modes::Never,
         },
         0xC3 => Row {
-            kindm: Kind::ReadRegister(Register::Serial),
-            modesm: Modes::Always,
-            kindp: Kind::Unknown,
-            modesp: Modes::Never,
+            mram: Kind::Read(Source::Register(Register::Serial)),
+            mram_modes: Modes::Always,
+            psram: Kind::Unknown,
+            psram_modes: Modes::Never,
         },
         0x65 => Row {
-            kindm: Kind::ReadAny,
-            modesm: Modes::Always,
-            kindp: Kind::Unknown,
-            modesp: Modes::Never,
+            mram: Kind::Read(Source::Map),
+            mram_modes: Modes::Always,
+            psram: Kind::Unknown,
+            psram_modes: Modes::Never,
         },
         0x03 => Row {
-            kindm: Kind::ReadMemory(Reading::Plain),
-            modesm: Modes::One,
-            kindp: Kind::ReadMemory(Reading::Plain),
-            modesp: Modes::One,
+            mram: Kind::Read(Source::Memory(Reading::Plain)),
+            mram_modes: Modes::One,
+            psram: Kind::Read(Source::Memory(Reading::Plain)),
+            psram_modes: Modes::One,
         },
         0x4B => Row {
-            kindm: Kind::ReadArea,
-            modesm: Modes::One,
-            kindp: Kind::Unknown,
-            modesp: Modes::Never,
+            mram: Kind::Read(Source::Area),
+            mram_modes: Modes::One,
+            psram: Kind::Unknown,
+            psram_modes: Modes::Never,
         },
         0x01 => Row {
-            kindm: Kind::WriteRegister(Register::Status),
-            modesm: Modes::Always,
-            kindp: Kind::Unknown,
-            modesp: Modes::Never,
+            mram: Kind::Write(Target::Register(Register::Status)),
+            mram_modes: Modes::Always,
+            psram: Kind::Unknown,
+            psram_modes: Modes::Never,
         },
         0x87 => Row {
-            kindm: Kind::WriteRegister(Register::Configurations),
-            modesm: Modes::Always,
-            kindp: Kind::Unknown,
-            modesp: Modes::Never,
+            mram: Kind::Write(Target::Register(Register::Configurations)),
+            mram_modes: Modes::Always,
+            psram: Kind::Unknown,
+            psram_modes: Modes::Never,
         },
         0xC2 => Row {
-            kindm: Kind::WriteRegister(Register::Serial),
-            modesm: Modes::Always,
-            kindp: Kind::Unknown,
-            modesp: Modes::Never,
+            mram: Kind::Write(Target::Register(Register::Serial)),
+            mram_modes: Modes::Always,
+            psram: Kind::Unknown,
+            psram_modes: Modes::Never,
         },
         0x1A => Row {
-            kindm: Kind::WriteRegister(Register::AreaProtection),
-            modesm: Modes::Always,
-            kindp: Kind::Unknown,
-            modesp: Modes::Never,
+            mram: Kind::Write(Target::Register(Register::AreaProtection)),
+            mram_modes: Modes::Always,
+            psram: Kind::Unknown,
+            psram_modes: Modes::Never,
         },
         0x02 => Row {
-            kindm: Kind::WriteMemory(Writing::Plain),
-            modesm: Modes::Always,
-            kindp: Kind::WriteMemory(Writing::Plain),
-            modesp: Modes::OneFour,
+            mram: Kind::Write(Target::Memory(Writing::Plain)),
+            mram_modes: Modes::Always,
+            psram: Kind::Write(Target::Memory(Writing::Plain)),
+            psram_modes: Modes::OneFour,
         },
         0x42 => Row {
-            kindm: Kind::WriteArea,
-            modesm: Modes::One,
-            kindp: Kind::Unknown,
-            modesp: Modes::Never,
+            mram: Kind::Write(Target::Area),
+            mram_modes: Modes::One,
+            psram: Kind::Unknown,
+            psram_modes: Modes::Never,
         },
         0x0B => Row {
-            kindm: Kind::Unknown,
-            modesm: Modes::Never,
-            kindp: Kind::ReadMemory(Reading::Fast),
-            modesp: Modes::OneFour,
+            mram: Kind::Unknown,
+            mram_modes: Modes::Never,
+            psram: Kind::Read(Source::Memory(Reading::Fast)),
+            psram_modes: Modes::OneFour,
         },
         0xEB => Row {
-            kindm: Kind::Unknown,
-            modesm: Modes::Never,
-            kindp: Kind::ReadMemory(Reading::Quad),
-            modesp: Modes::OneFour,
+            mram: Kind::Unknown,
+            mram_modes: Modes::Never,
+            psram: Kind::Read(Source::Memory(Reading::Quad)),
+            psram_modes: Modes::OneFour,
         },
         0x8B => Row {
-            kindm: Kind::Unknown,
-            modesm: Modes::Never,
-            kindp: Kind::ReadMemory(Reading::Wrapped),
-            modesp: Modes::OneFour,
+            mram: Kind::Unknown,
+            mram_modes: Modes::Never,
+            psram: Kind::Read(Source::Memory(Reading::Wrapped)),
+            psram_modes: Modes::OneFour,
         },
         0x82 => Row {
-            kindm: Kind::Unknown,
-            modesm: Modes::Never,
-            kindp: Kind::WriteMemory(Writing::Plain),
-            modesp: Modes::OneFour,
+            mram: Kind::Unknown,
+            mram_modes: Modes::Never,
+            psram: Kind::Write(Target::Memory(Writing::Plain)),
+            psram_modes: Modes::OneFour,
         },
         0xB5 => Row {
-            kindm: Kind::Unknown,
-            modesm: Modes::Never,
-            kindp: Kind::ReadMode,
-            modesp: Modes::OneFour,
+            mram: Kind::Unknown,
+            mram_modes: Modes::Never,
+            psram: Kind::Read(Source::Mode),
+            psram_modes: Modes::OneFour,
         },
         0xB1 => Row {
-            kindm: Kind::Unknown,
-            modesm: Modes::Never,
-            kindp: Kind::WriteMode,
-            modesp: Modes::OneFour,
+            mram: Kind::Unknown,
+            mram_modes: Modes::Never,
+            psram: Kind::Write(Target::Mode),
+            psram_modes: Modes::OneFour,
         },
         0xF5 => Row {
-            kindm: Kind::Unknown,
-            modesm: Modes::Never,
-            kindp: Kind::Plain(Control::ToOne),
-            modesp: Modes::Four,
+            mram: Kind::Unknown,
+            mram_modes: Modes::Never,
+            psram: Kind::Plain(Control::ToOne),
+            psram_modes: Modes::Four,
         },
         0xC0 => Row {
-            kindm: Kind::Unknown,
-            modesm: Modes::Never,
-            kindp: Kind::Plain(Control::Toggle),
-            modesp: Modes::OneFour,
+            mram: Kind::Unknown,
+            mram_modes: Modes::Never,
+            psram: Kind::Plain(Control::Toggle),
+            psram_modes: Modes::OneFour,
         },
         0x07..=0x0A
         | 0x0C..=0x13
@@ -336,10 +347,10 @@ fn row_of(opcode: u8) -> Row
         | 0xC4..=0xEA
         | 0xEC..=0xF4
         | 0xF6..=0xFE => Row {
-            kindm: Kind::Unknown,
-            modesm: Modes::Never,
-            kindp: Kind::Unknown,
-            modesp: Modes::Never,
+            mram: Kind::Unknown,
+            mram_modes: Modes::Never,
+            psram: Kind::Unknown,
+            psram_modes: Modes::Never,
         },
     }
 }
@@ -388,20 +399,20 @@ fn kind_in(k: Kind, m: Modes, w: Wires) -> Kind
     Kind::Unknown
 }
 
-// The kind of a command: what the opcode means on this part, if the part has it in this bus mode.
-pub fn kind_of(part: Part, w: Wires, opcode: u8) -> Kind
-    ensures { λ r. ⌜ r ≡ kindOf part w opcode ⌝ }
+// The kind of a command: what the opcode means to this family, if it has it in this bus mode.
+pub fn kind_of(family: Family, w: Wires, opcode: u8) -> Kind
+    ensures { λ r. ⌜ r ≡ kindOf family w opcode ⌝ }
 {
     let row = row_of(opcode);
-    match part {
-        Part::M => {
-            let k = row.kindm;
-            let m = row.modesm;
+    match family {
+        Family::Mram => {
+            let k = row.mram;
+            let m = row.mram_modes;
             kind_in(k, m, w)
         }
-        Part::P => {
-            let k = row.kindp;
-            let m = row.modesp;
+        Family::Psram => {
+            let k = row.psram;
+            let m = row.psram_modes;
             kind_in(k, m, w)
         }
     }

@@ -7,14 +7,16 @@ use mathlib.Core.Logic.{Or·elim}
 use mathlib.Core.List.{eq-or-mem-of-mem-cons}
 use Prim.Native.Nat.{ℕ, _+_, _<_}
 use native.Mathlib.Bridge.{le-prop}
+use native.Mathlib.Omega.{arith}
 use lib.Dec.{eqb}
 use lib.ListN.{length, set, getD, length-set}
 use lib.Seq.{set-comm, getD-set-same, getD-set-other}
 use borrow.Author.Tests.{eqb-true, eqb-false}
-use Rattle.basis.specs.Truth.{untrue, cond-same}
+use Rattle.basis.specs.Truth.{cond-same}
+use Rattle.basis.specs.Counting.{howMany, each-passes}
 use Rattle.units.specs.declared.Bytes.{Bytes}
 use Rattle.units.specs.Units.{bytes}
-use Rattle.order.specs.Bursts.{Burst, storeOne, storeFrom, store, placesFrom, places, shutFrom, allShut, lastFrom, heldAt}
+use Rattle.order.specs.Bursts.{Burst, storeOne, storeFrom, store, placesFrom, places, shutAll, lastFrom, heldAt}
 
 -- ---- two stores at two places
 swap-two : (p q : Bool) (l : List ℕ) (i j x y : ℕ) → (i ≡ j → ⊥)
@@ -95,22 +97,18 @@ pub store-kept : (b : Burst) (l : List ℕ) (a : ℕ) → (List·Mem a (places b
 store-kept b l a n = from-kept b a 0 (b .sent) l n
 
 -- ---- a burst into protected places only stores nothing
-shut-step : (p q : Bool) {l m k : List ℕ} → (p && q) ≡ true → (p ≡ true → m ≡ l) → (q ≡ true → l ≡ k) → m ≡ k
-shut-step true q h e f = e refl ∙ f h
-shut-step false q h e f = untrue h
-
-shut-from : (b : Burst) (i : ℕ) (xs l : List ℕ) → shutFrom b i xs ≡ true → storeFrom b i xs l ≡ l
-unfolding storeFrom shutFrom
+shut-from : (b : Burst) (i : ℕ) (xs l : List ℕ) → ((j : ℕ) → j < i + length xs → b .shut (b .place (bytes j)) ≡ true) → storeFrom b i xs l ≡ l
+unfolding storeFrom
 shut-from b i [] l h = refl
-shut-from b i (x ∷ xs) l h =
-    let p = b .shut (b .place (bytes i)) in
-    shut-step p (shutFrom b (i + 1) xs) h (λ e. ap (storeFrom b (i + 1) xs) (one-shut p l (b .place (bytes i)) x e)) (λ e. shut-from b (i + 1) xs l e)
-  where
-    one-shut : (p : Bool) (l : List ℕ) (j x : ℕ) → p ≡ true → cond p l (set l j x) ≡ l
-    one-shut p l j x e = rw e
+shut-from b i (x ∷ xs) l h = rw (h i (omega arith)) (shut-from b (i + 1) xs l (λ j k. h j (omega arith)))
 
-pub store-shut : (b : Burst) (l : List ℕ) → allShut b ≡ true → store b l ≡ l
-store-shut b l h = shut-from b 0 (b .sent) l h
+pub store-shut : (b : Burst) (l : List ℕ) → shutAll b ≡ true → store b l ≡ l
+unfolding shutAll
+store-shut b l e =
+    let shut : ℕ → Bool = λ i. b .shut (b .place (bytes i)) in
+    let n = length (b .sent) in
+    let all = eqb-true (howMany shut n) n e in
+    shut-from b 0 (b .sent) l (λ j h. each-passes shut n all j (omega arith))
 
 -- ---- where every byte lies below an edge, so does every touched place
 from-below : (b : Burst) (edge : ℕ) → ((i : Bytes) → b .place i < edge) → (a i : ℕ) (xs : List ℕ) → List·Mem a (placesFrom b i xs) → a < edge

@@ -4,7 +4,8 @@ use Prim.Native.Nat.{ℕ, _+_, _%_}
 use mathlib.Core.Bool.{Bool, true, cond, not, _&&_}
 use mathlib.Core.List.{List, [], _∷_, _++_}
 use lib.Dec.{T, eqb}
-use lib.ListN.{replicate, set}
+use lib.ListN.{length, replicate, set}
+use Rattle.basis.specs.Counting.{howMany}
 use Rattle.basis.specs.Examples.{all, same}
 use Rattle.units.specs.declared.Bytes.{Bytes}
 use Rattle.units.specs.Units.{bytes}
@@ -37,13 +38,9 @@ placesFrom b i (x ∷ xs) = b .place (bytes i) ∷ placesFrom b (i + 1) xs
 abbrev pub places : Burst → List ℕ
 places b = placesFrom b 0 (b .sent)
 
--- every place is protected
-unfoldable pub shutFrom : Burst → ℕ → List ℕ → Bool
-shutFrom b i [] = true
-shutFrom b i (x ∷ xs) = b .shut (b .place (bytes i)) && shutFrom b (i + 1) xs
-
-abbrev pub allShut : Burst → Bool
-allShut b = shutFrom b 0 (b .sent)
+-- all of its places are protected: as many as it has bytes
+unfoldable pub shutAll : Burst → Bool
+shutAll b = eqb (howMany (λ i. b .shut (b .place (bytes i))) (length (b .sent))) (length (b .sent))
 
 -- the byte sent last for the place a, or the old one where none was
 unfoldable pub lastFrom : Burst → ℕ → ℕ → List ℕ → ℕ → ℕ
@@ -56,7 +53,7 @@ heldAt b a old = cond (b .shut a) old (lastFrom b a 0 (b .sent) old)
 
 -- WHAT IS STORED of a burst: nothing where it is answered 9. Under the paper's rule 9 is the answer where every place is protected.
 abbrev pub landed : Burst → Burst
-landed b = record { place = b .place; shut = b .shut; sent = cond (allShut b) [] (b .sent) }
+landed b = record { place = b .place; shut = b .shut; sent = cond (shutAll b) [] (b .sent) }
 
 -- ---- worked out: four bytes from 0Eh in a group of 16, whose place 00h is protected
 abbrev four : Burst
@@ -66,12 +63,12 @@ unfoldable pub examples : List Bool
 examples =
     same (places four) (0x0E ∷ 0x0F ∷ 0x00 ∷ 0x01 ∷ [])
     ∷ same (store four (replicate 16 9)) (9 ∷ 4 ∷ replicate 12 9 ++ (1 ∷ 2 ∷ []))
-    ∷ not (allShut four)
+    ∷ not (shutAll four)
     ∷ eqb (heldAt four 0x00 9) 9
     ∷ eqb (heldAt four 0x01 9) 4
     ∷ eqb (heldAt four 0x02 9) 9
     ∷ []
 
 pub examples-hold : T (all examples)
-unfolding examples storeFrom placesFrom shutFrom lastFrom
+unfolding examples storeFrom placesFrom howMany shutAll lastFrom
 examples-hold = tt

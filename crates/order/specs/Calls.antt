@@ -10,32 +10,35 @@ use mathlib.Core.List.{List, []}
 use lib.Dec.{leb}
 use lib.ListN.{length, take, drop, length-take, length-drop}
 use borrow.Author.Tests.{le-ltb, leb-true}
-use Rattle.basis.specs.Truth.{untrue}
-use Rattle.units.specs.Units.{bytes, perByte, fewer}
+use Rattle.basis.specs.Truth.{untrue, never}
+use Rattle.units.specs.Units.{perByte, fewer, wholeOf}
+use Rattle.parts.specs.Parts.{familyOf}
+use Rattle.opcodes.specs.declared.Target.the-variants as Into
 use Rattle.opcodes.specs.declared.Kind.{Kind}
-use Rattle.opcodes.specs.declared.Kind.the-variants.{Unknown, WriteMemory}
+use Rattle.opcodes.specs.declared.Kind.the-variants.{Unknown, Write}
 use Rattle.commands.specs.declared.plans.Body.{Body}
 use Rattle.commands.specs.declared.plans.Body.the-variants.{Nothing, FixedRead, AnyRead, FixedWrite, AnyWrite}
+use Rattle.commands.specs.Plans.{reads}
 use Rattle.record.specs.declared.Answer.{Answer}
 use Rattle.record.specs.declared.Answer.the-variants.{Done, Protected}
 use Rattle.record.specs.declared.Device.{Device}
 use Rattle.record.specs.declared.Setting.{Setting}
-use Rattle.record.specs.Devices.{settingOf}
+use Rattle.record.specs.Devices.{settingOf, aimOf}
 use Rattle.record.specs.Latches.{latchMissing, afterBurst}
 use Rattle.record.specs.Changes.{volatileTo, settledOf}
 use Rattle.record.specs.Answers.{isDone}
 use Rattle.values.specs.States.{validOf}
 use Rattle.paper.specs.InForce.{unknown, asleepFor, stopped, decided, commandClocks, addressClocks, waitClocks, wiresFor, bodyFor}
 use Rattle.paper.specs.Reading.{after, many, kindRead, dataPart, Parts, partsOf, countsIn, dataBytes}
-use Rattle.paper.specs.Laws.{data-many}
-use Rattle.paper.specs.Storing.{Lent, Taken, nothingTaken, takeByte, takeAll}
+use Rattle.paper.specs.Laws.{data-many, along-zero}
+use Rattle.paper.specs.Storing.{Lent, allShut, storeByte, takeAll}
 use Rattle.paper.specs.Driving.{drivenAt, along}
-use Rattle.paper.specs.Answers.{Facts, shortData, longRest, unarmed, reservedFor, shutData, rows, judge}
-use Rattle.paper.specs.Transaction.{World, sizedFor, factsOf, undriven, around, outputOf, over, clockedOf, transactOf}
-use Rattle.theorems.specs.ExactOrder.{Clear, past}
-use Rattle.theorems.specs.Driven.{reads, along-zero}
-use Rattle.order.specs.Bursts.{Burst, storeFrom, store, allShut, landed}
-use Rattle.order.specs.Bytes.{taken-so}
+use Rattle.paper.specs.Table.{by-row}
+use Rattle.paper.specs.Answers.{Facts, shortData, longRest, unarmed, reservedFor, shutData, tableFor, judge}
+use Rattle.paper.specs.Transaction.{World, sizedFor, sentBytes, factsOf, storedBy, undriven, around, outputOf, over, clockedOf, transactOf}
+use Rattle.paper.specs.CallLaws.{when-accepted}
+use Rattle.order.specs.Bursts.{Burst, storeFrom, store, shutAll, landed}
+use Rattle.order.specs.Bytes.{taken-so, shut-so}
 use Rattle.order.specs.Episodes.{Call, Reply, aimed, MemoryWrite}
 
 -- ---- what a call says, by the setting alone
@@ -137,87 +140,71 @@ module _ (d : Device) (l : Lent) (x : Call) (awake : d .volatile .asleep ≡ fal
 
   -- what its bytes leave
   abbrev facts : Facts
-  facts = factsOf d l p
+  facts = factsOf s p
 
-  taken-is : facts .taken ≡ record { lent = record { memory = store b (l .memory); area = l .area }; value = nothingTaken l .value; any = not (allShut b) }
-  unfolding factsOf aimed
-  taken-is =
-      let f : Body → Kind → Taken = λ y k. takeAll (takeByte y s k (p .address)) 0 (dataBytes (wiresFor s (p .kind)) (p .dataPart)) (nothingTaken l) in
+  stored-is : storedBy s p l ≡ record { memory = store b (l .memory); area = l .area }
+  unfolding storedBy sentBytes aimed
+  stored-is =
+      let f : Body → Kind → Lent = λ y k. takeAll (storeByte y (aimOf s k (p .address))) 0 (dataBytes (wiresFor s (p .kind)) (p .dataPart)) l in
       ap (λ (y : Body). f y (p .kind)) body-any ∙ ap (f AnyWrite) (w .kind) ∙ taken-so s (w .way) (p .address) (dataBytes (wiresFor s (p .kind)) (p .dataPart)) l
 
   -- ---- the answer: 9 where every place is protected, and 0 otherwise
   abbrev answers : Answer
-  answers = cond (allShut b) Protected Done
+  answers = cond (shutAll b) Protected Done
 
-  not-not : (a : Bool) → not (not a) ≡ a
-  not-not true = refl
-  not-not false = refl
+  shut-is : tableFor d facts .shut ≡ shutAll b
+  unfolding factsOf aimed
+  shut-is =
+      let m = wholeOf (wiresFor s (p .kind)) (many (p .dataPart)) in
+      ap (λ (y : Body). shutData y (aimOf s (p .kind) (p .address)) m) body-any
+      ∙ ap (λ (k : Kind). allShut (aimOf s k (p .address)) m) (w .kind)
+      ∙ shut-so s (w .way) (p .address) (dataBytes (wiresFor s (p .kind)) (p .dataPart)) (data-many (wiresFor s (p .kind)) (p .dataPart))
 
-  module _ (free : latchMissing (s .part) (s .registers .cr4) (d .volatile .latch) (WriteMemory (w .way)) ≡ false) where
-    no-fault : Clear (take 10 (rows s (d .volatile .armed) (d .volatile .latch) facts))
-    unfolding factsOf unarmed
-    no-fault = (
-      command-full s (x .samples) known,
-      (
-        goes,
-        (
-          known,
-          (
-            address-full,
-            (
-              w .reach,
-              (
-                ap (λ (y : Body). shortData y (wiresFor s (p .kind)) (many (p .dataPart))) body-any ∙ le-ltb (length (p .dataPart) / perByte (wiresFor s (p .kind))) 1 data-some,
-                (
-                  ap (λ (y : Body). longRest y (many (p .restPart))) body-any,
-                  (
-                    ap (unarmed (d .volatile .armed)) (w .kind),
-                    (
-                      ap (latchMissing (s .part) (s .registers .cr4) (d .volatile .latch)) (w .kind) ∙ free,
-                      (
-                        ap (λ (k : Kind). reservedFor (s .part) k (facts .taken .value)) (w .kind),
-                        tt,
-                      ),
-                    ),
-                  ),
-                ),
-              ),
-            ),
-          ),
-        ),
-      ),
-    )
-
+  module _ (free : latchMissing (familyOf (s .part)) (s .registers .cr4) (d .volatile .latch) (Write (Into.Memory (w .way))) ≡ false) where
     answer-is : judge d facts ≡ answers
-    unfolding judge factsOf
+    unfolding judge factsOf unarmed
     answer-is =
-        past 10 (rows s (d .volatile .armed) (d .volatile .latch) facts) no-fault
-        ∙ ap (λ (c : Bool). cond c Protected Done)
-        (ap (λ (y : Body). shutData y (facts .taken .any)) body-any ∙ ap (λ (t : Taken). not (t .any)) taken-is ∙ not-not (allShut b))
+        by-row (tableFor d facts) (λ v. v ≡ answers)
+        (record {
+          cutCommand = never (tableFor d facts .cutCommand) (command-full s (x .samples) known);
+          asleep = never (tableFor d facts .asleep) goes;
+          unknown = never (tableFor d facts .unknown) known;
+          cutAddress = never (tableFor d facts .cutAddress) address-full;
+          refused = never (tableFor d facts .refused) (w .reach);
+          cutData =
+              never (tableFor d facts .cutData)
+              (ap (λ (y : Body). shortData y (wiresFor s (p .kind)) (many (p .dataPart))) body-any ∙ le-ltb (length (p .dataPart) / perByte (wiresFor s (p .kind))) 1 data-some);
+          long = never (tableFor d facts .long) (ap (λ (y : Body). longRest y (many (p .restPart))) body-any);
+          unarmed = never (tableFor d facts .unarmed) (ap (unarmed (d .volatile .armed)) (w .kind));
+          latch = never (tableFor d facts .latch) (ap (latchMissing (familyOf (s .part)) (s .registers .cr4) (d .volatile .latch)) (w .kind) ∙ free);
+          reserved = never (tableFor d facts .reserved) (ap (λ (k : Kind). reservedFor (s .part) k (facts .tally .value)) (w .kind));
+          shut = λ e. rw (sym shut-is ∙ e);
+          none = λ c. rw (sym shut-is ∙ c .shut);
+        })
 
     -- THE RECORD after it: disarmed, and the latch as the write mode says, whether it is answered 0 or 9
-    write-moves : settledOf (p .kind) (facts .taken .value) answers d ≡ relatch d (afterBurst (d .registers .cr4) (d .volatile .latch)) false
-    write-moves = by (allShut b)
+    write-moves : settledOf (p .kind) (facts .tally .value) answers d ≡ relatch d (afterBurst (d .registers .cr4) (d .volatile .latch)) false
+    write-moves = by (shutAll b)
       where
-        by : (q : Bool) → settledOf (p .kind) (facts .taken .value) (cond q Protected Done) d ≡ relatch d (afterBurst (d .registers .cr4) (d .volatile .latch)) false
+        by : (q : Bool) → settledOf (p .kind) (facts .tally .value) (cond q Protected Done) d ≡ relatch d (afterBurst (d .registers .cr4) (d .volatile .latch)) false
         by true = refl
-        by false = ap (λ (k : Kind). settledOf k (facts .taken .value) Done d) (w .kind)
+        by false = ap (λ (k : Kind). settledOf k (facts .tally .value) Done d) (w .kind)
 
     -- MEMORY AND AREA after it
-    write-stores : cond (isDone answers) (facts .taken .lent) l ≡ record { memory = store (landed b) (l .memory); area = l .area }
+    write-stores : cond (isDone answers) (storedBy s p l) l ≡ record { memory = store (landed b) (l .memory); area = l .area }
     unfolding storeFrom
-    write-stores = by (allShut b)
+    write-stores = by (shutAll b)
       where
-        by : (q : Bool) → cond (isDone (cond q Protected Done)) (facts .taken .lent) l
+        by : (q : Bool) → cond (isDone (cond q Protected Done)) (storedBy s p l) l
             ≡ record { memory = store (record { place = b .place; shut = b .shut; sent = cond q [] (b .sent) }) (l .memory); area = l .area }
         by true = refl
-        by false = ap (λ (t : Taken). t .lent) taken-is
+        by false = stored-is
 
     -- A MEMORY WRITE, whole
     pub write-call : sizedFor d l ≡ true → validOf d ≡ true
         → transactOf d l (x .samples) (x .room)
         ≡ worldAt (quietly s x answers) (relatch d (afterBurst (d .registers .cr4) (d .volatile .latch)) false) (record { memory = store (landed b) (l .memory); area = l .area })
-    unfolding transactOf clockedOf factsOf
+    unfolding clockedOf factsOf
     write-call sized valid =
-        rw (sized, w .room, w .levels, valid, answer-is)
-        (rw (write-moves, write-stores, quiet d l p answers (ap reads body-any)))
+        when-accepted d l (x .samples) (x .room) (record { sized = sized; room = w .room; levels = w .levels; valid = valid })
+        ∙ rw answer-is (rw (write-moves, write-stores, quiet d l p answers (ap reads body-any)))

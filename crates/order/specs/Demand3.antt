@@ -16,24 +16,27 @@ use lib.ListN.{length, getD}
 use borrow.Author.Tests.{leb-true, eqb-true}
 use Rattle.basis.specs.Truth.{both-true, cond-same}
 use Rattle.units.specs.declared.Bytes.{Bytes}
+use Rattle.parts.specs.declared.Family.{Family}
+use Rattle.parts.specs.declared.Family.the-variants.{Mram, Psram}
 use Rattle.parts.specs.declared.Part.{Part}
 use Rattle.parts.specs.declared.Part.the-variants.{M, P}
-use Rattle.parts.specs.Parts.{knownPart, leastOf, mostOf, offered}
+use Rattle.parts.specs.Parts.{familyOf, knownPart, leastOf, mostOf, offered}
 use Rattle.opcodes.specs.declared.Writing.{Writing}
-use Rattle.opcodes.specs.declared.Kind.the-variants.{WriteMemory}
+use Rattle.opcodes.specs.declared.Target.the-variants as Into
+use Rattle.opcodes.specs.declared.Kind.the-variants.{Write}
 use Rattle.record.specs.declared.Answer.{Answer}
 use Rattle.record.specs.declared.Answer.the-variants.{Done, Protected}
 use Rattle.record.specs.declared.Device.{Device}
 use Rattle.record.specs.declared.Setting.{Setting}
 use Rattle.record.specs.Devices.{settingOf}
 use Rattle.record.specs.Latches.{writeMode, latchNeeded, latchMissing, afterBurst}
-use Rattle.values.specs.States.{volatileM, volatileP, registersP, identityP, modeAllowed, validFor, validOf}
+use Rattle.values.specs.States.{mramVolatile, psramVolatile, psramRegisters, psramIdentity, modeAllowed, psramValid, validFor, validOf}
 use Rattle.paper.specs.Transaction.{World, sizedFor}
 use Rattle.order.specs.Steps.{runAll, Every, every-one, every-order, any-order}
-use Rattle.order.specs.Bursts.{Burst, storeFrom, store, placesFrom, places, allShut, heldAt, landed}
+use Rattle.order.specs.Bursts.{Burst, storeFrom, store, placesFrom, places, shutAll, heldAt, landed}
 use Rattle.order.specs.BurstLaws.{bursts-commute, store-length, store-held, store-kept, store-shut, places-below}
 use Rattle.order.specs.Within.{write-below}
-use Rattle.order.specs.Episodes.{Chip, Call, Reply, called, leaves, says, afterCalls, replies, aimed, MemoryWrite, Enabling, Episode, onM, onP, burstOf, touched, Apart, runs, allReplies, Ready, AnyOrder}
+use Rattle.order.specs.Episodes.{Chip, Call, Reply, called, leaves, says, afterCalls, replies, aimed, MemoryWrite, Enabling, Episode, onMram, onPsram, burstOf, touched, Apart, runs, allReplies, Ready, AnyOrder}
 use Rattle.order.specs.Calls.{quietly, relatch, worldAt, write-call}
 use Rattle.order.specs.Steady.{enable-call}
 
@@ -46,85 +49,85 @@ record Moving : Type 0 where
 abbrev chipAt : Chip → Moving → Chip
 chipAt c m = record { device = relatch (c .device) (m .latch) (m .armed); lent = record { memory = m .memory; area = c .lent .area } }
 
--- the latch before the write: part M's enable has put it up
-abbrev risen : Part → Bool → Bool
-risen M latch = true
-risen P latch = latch
+-- the latch before the write: the MRAM's enable has put it up
+abbrev risen : Family → Bool → Bool
+risen Mram latch = true
+risen Psram latch = latch
 
 -- WHAT AN EPISODE DOES, whatever came before it
 act : Setting → List Call → Moving → Moving
 act s e m =
     record {
-      latch = afterBurst (s .registers .cr4) (risen (s .part) (m .latch));
+      latch = afterBurst (s .registers .cr4) (risen (familyOf (s .part)) (m .latch));
       armed = false;
       memory = store (landed (burstOf s e)) (m .memory);
     }
 
 -- WHAT IT IS TOLD
 abbrev answerTo : Setting → Call → Answer
-answerTo s x = cond (allShut (aimed s (x .samples))) Protected Done
+answerTo s x = cond (shutAll (aimed s (x .samples))) Protected Done
 
 told : Setting → List Call → List Reply
 told s [] = []
 told s (x ∷ []) = quietly s x (answerTo s x) ∷ []
 told s (x ∷ y ∷ l) = quietly s x Done ∷ quietly s y (answerTo s y) ∷ []
 
--- ---- a valid record stays valid: part P's latch is down, and all else that moves may be as it is
-abbrev Fits : Part → Bool → Type 0
-Fits M latch = Unit {0}
-Fits P latch = latch ≡ false
+-- ---- a valid record stays valid: the PSRAM's latch is down, and all else that moves may be as it is
+abbrev Fits : Family → Bool → Type 0
+Fits Mram latch = Unit {0}
+Fits Psram latch = latch ≡ false
 
-valid-moved : (p : Part) (d : Device) (latch armed latch′ armed′ : Bool) → validFor p (relatch d latch armed) ≡ true → Fits p latch′ → validFor p (relatch d latch′ armed′) ≡ true
-unfolding volatileM volatileP
-valid-moved M d latch armed latch′ armed′ v f = v
-valid-moved P d latch armed latch′ armed′ v f =
-    let x = both-true (registersP (d .registers)) _ v in
-    let y = both-true (volatileP (relatch d latch armed .volatile)) (identityP (d .identity)) (x .1) in
-    let z = both-true (not latch) (not (d .volatile .asleep) && modeAllowed P (d .volatile .mode)) (y .0) in
+valid-moved : (g : Family) (p : Part) (d : Device) (latch armed latch′ armed′ : Bool) → validFor g p (relatch d latch armed) ≡ true → Fits g latch′ → validFor g p (relatch d latch′ armed′) ≡ true
+unfolding mramVolatile psramVolatile
+valid-moved Mram p d latch armed latch′ armed′ v f = v
+valid-moved Psram p d latch armed latch′ armed′ v f =
+    let x = both-true (psramRegisters (d .registers)) _ v in
+    let y = both-true (psramVolatile (relatch d latch armed .volatile)) (psramIdentity (d .identity)) (x .1) in
+    let z = both-true (not latch) (not (d .volatile .asleep) && modeAllowed Psram (d .volatile .mode)) (y .0) in
     rw (x .0, f, z .1, y .1)
 
-latch-down : (d : Device) (latch armed : Bool) → validFor P (relatch d latch armed) ≡ true → latch ≡ false
-unfolding volatileP
+latch-down : (d : Device) (latch armed : Bool) → psramValid (relatch d latch armed) ≡ true → latch ≡ false
+unfolding psramVolatile
 latch-down d latch armed v =
-    let x = both-true (registersP (d .registers)) _ v in
-    let y = both-true (volatileP (relatch d latch armed .volatile)) (identityP (d .identity)) (x .1) in
+    let x = both-true (psramRegisters (d .registers)) _ v in
+    let y = both-true (psramVolatile (relatch d latch armed .volatile)) (psramIdentity (d .identity)) (x .1) in
     by latch (both-true (not latch) _ (y .0) .0)
   where
     by : (b : Bool) → not b ≡ true → b ≡ false
     by true e = sym e
     by false e = refl
 
-after-fits : (p : Part) (cr4 : ℕ) (latch : Bool) → Fits p latch → Fits p (afterBurst cr4 latch)
-after-fits M cr4 latch f = tt
-after-fits P cr4 latch f = rw f (cond-same (eqb (writeMode cr4) 0) false)
+after-fits : (g : Family) (cr4 : ℕ) (latch : Bool) → Fits g latch → Fits g (afterBurst cr4 latch)
+after-fits Mram cr4 latch f = tt
+after-fits Psram cr4 latch f = rw f (cond-same (eqb (writeMode cr4) 0) false)
 
 -- ---- one episode
--- the latch is no hindrance once it is up, and on part P never
-up-is-free : (p : Part) (cr4 : ℕ) (z : Writing) → latchMissing p cr4 true (WriteMemory z) ≡ false
+-- the latch is no hindrance once it is up, and on the PSRAM never
+up-is-free : (g : Family) (cr4 : ℕ) (z : Writing) → latchMissing g cr4 true (Write (Into.Memory z)) ≡ false
 unfolding latchMissing
-up-is-free p cr4 z = by (latchNeeded p cr4 (WriteMemory z))
+up-is-free g cr4 z = by (latchNeeded g cr4 (Write (Into.Memory z)))
   where
     by : (b : Bool) → (b && false) ≡ false
     by true = refl
     by false = refl
 
-P-is-free : (p : Part) (cr4 : ℕ) (latch : Bool) (z : Writing) → p ≡ P → latchMissing p cr4 latch (WriteMemory z) ≡ false
+psram-is-free : (g : Family) (cr4 : ℕ) (latch : Bool) (z : Writing) → g ≡ Psram → latchMissing g cr4 latch (Write (Into.Memory z)) ≡ false
 unfolding latchMissing
-P-is-free p cr4 latch z e = rw e
+psram-is-free g cr4 latch z e = rw e
 
 -- under the paper's rule a burst answered 9 aims at protected places only, so that storing all of it stores nothing
 landed-all : (b : Burst) (l : List ℕ) → store (landed b) l ≡ store b l
 unfolding storeFrom
-landed-all b l = by (allShut b) refl
+landed-all b l = by (shutAll b) refl
   where
-    by : (q : Bool) → allShut b ≡ q → store (record { place = b .place; shut = b .shut; sent = cond q [] (b .sent) }) l ≡ store b l
+    by : (q : Bool) → shutAll b ≡ q → store (record { place = b .place; shut = b .shut; sent = cond q [] (b .sent) }) l ≡ store b l
     by true e = sym (store-shut b l e)
     by false e = refl
 
 -- and it touches no more than the burst
 landed-places : (b : Burst) (a : ℕ) → List·Mem a (places (landed b)) → List·Mem a (places b)
 unfolding placesFrom
-landed-places b a m = by (allShut b) m
+landed-places b a m = by (shutAll b) m
   where
     by : (q : Bool) → List·Mem a (places (record { place = b .place; shut = b .shut; sent = cond q [] (b .sent) })) → List·Mem a (places b)
     by true m = absurd (not-mem-nil m)
@@ -137,26 +140,29 @@ module _ (c : Chip) (r : Ready c) where
   abbrev s : Setting
   s = settingOf d
 
+  abbrev family : Family
+  family = familyOf (s .part)
+
   -- a state that episodes reach
   record Fit (m : Moving) : Type 0 where
     long : length (m .memory) ≡ length (c .lent .memory)
-    valid : validFor (s .part) (relatch d (m .latch) (m .armed)) ≡ true
+    valid : validFor family (s .part) (relatch d (m .latch) (m .armed)) ≡ true
 
   sized-at : (latch armed : Bool) (memory : List ℕ) → length memory ≡ length (c .lent .memory)
       → sizedFor (relatch d latch armed) (record { memory = memory; area = c .lent .area }) ≡ true
   unfolding sizedFor
   sized-at latch armed memory e = rw e (r .sized)
 
-  risen-fits : (m : Moving) → Fit m → Fits (s .part) (risen (s .part) (m .latch))
-  risen-fits m f = by (s .part) (f .valid)
+  risen-fits : (m : Moving) → Fit m → Fits family (risen family (m .latch))
+  risen-fits m f = by family (f .valid)
     where
-      by : (p : Part) → validFor p (relatch d (m .latch) (m .armed)) ≡ true → Fits p (risen p (m .latch))
-      by M v = tt
-      by P v = latch-down d (m .latch) (m .armed) v
+      by : (g : Family) → validFor g (s .part) (relatch d (m .latch) (m .armed)) ≡ true → Fits g (risen g (m .latch))
+      by Mram v = tt
+      by Psram v = latch-down d (m .latch) (m .armed) v
 
   -- the write of an episode, the latch being as the episode needs it
-  write-step : (latch armed : Bool) (memory : List ℕ) → length memory ≡ length (c .lent .memory) → validFor (s .part) (relatch d latch armed) ≡ true
-      → (x : Call) (w : MemoryWrite s x) → latchMissing (s .part) (s .registers .cr4) latch (WriteMemory (w .way)) ≡ false
+  write-step : (latch armed : Bool) (memory : List ℕ) → length memory ≡ length (c .lent .memory) → validFor family (s .part) (relatch d latch armed) ≡ true
+      → (x : Call) (w : MemoryWrite s x) → latchMissing family (s .registers .cr4) latch (Write (Into.Memory (w .way))) ≡ false
       → called (chipAt c (record { latch = latch; armed = armed; memory = memory })) x
       ≡ worldAt (quietly s x (answerTo s x)) (relatch d (afterBurst (s .registers .cr4) latch) false)
       (record { memory = store (landed (aimed s (x .samples))) memory; area = c .lent .area })
@@ -171,36 +177,36 @@ module _ (c : Chip) (r : Ready c) where
       enable-call d (c .lent) x (q .kind) (q .done) (m .latch) (m .armed) (record { memory = m .memory; area = c .lent .area })
       (sized-at (m .latch) (m .armed) (m .memory) (f .long)) (f .valid)
 
-  -- after part M's enable
-  enabled-valid : (m : Moving) → Fit m → s .part ≡ M → validFor (s .part) (relatch d true false) ≡ true
-  enabled-valid m f e = valid-moved (s .part) d (m .latch) (m .armed) true false (f .valid) (subst (λ (p : Part). Fits p true) (sym e) tt)
+  -- after the MRAM's enable
+  enabled-valid : (m : Moving) → Fit m → family ≡ Mram → validFor family (s .part) (relatch d true false) ≡ true
+  enabled-valid m f e = valid-moved family (s .part) d (m .latch) (m .armed) true false (f .valid) (subst (λ (g : Family). Fits g true) (sym e) tt)
 
-  risen-M : (latch : Bool) (p : Part) → p ≡ M → risen p latch ≡ true
-  risen-M latch p e = rw e
+  risen-mram : (latch : Bool) (g : Family) → g ≡ Mram → risen g latch ≡ true
+  risen-mram latch g e = rw e
 
-  risen-P : (latch : Bool) (p : Part) → p ≡ P → risen p latch ≡ latch
-  risen-P latch p e = rw e
+  risen-psram : (latch : Bool) (g : Family) → g ≡ Psram → risen g latch ≡ latch
+  risen-psram latch g e = rw e
 
   -- AN EPISODE ACTS, and is told, by the setting and its samples alone
   episode-acts : {e : List Call} → Episode c e → (m : Moving) → Fit m → afterCalls (chipAt c m) e ≡ chipAt c (act s e m)
   unfolding afterCalls act
-  episode-acts (onM {en} {wr} p q w) m f =
+  episode-acts (onMram {en} {wr} p q w) m f =
       ap (λ (z : World). leaves (called (leaves z) wr)) (enable-step m f en q)
-      ∙ ap leaves (write-step true false (m .memory) (f .long) (enabled-valid m f p) wr w (up-is-free (s .part) (s .registers .cr4) (w .way)))
-      ∙ rw (risen-M (m .latch) (s .part) p)
-  episode-acts (onP {wr} p w) m f =
-      ap leaves (write-step (m .latch) (m .armed) (m .memory) (f .long) (f .valid) wr w (P-is-free (s .part) (s .registers .cr4) (m .latch) (w .way) p))
-      ∙ rw (risen-P (m .latch) (s .part) p)
+      ∙ ap leaves (write-step true false (m .memory) (f .long) (enabled-valid m f p) wr w (up-is-free family (s .registers .cr4) (w .way)))
+      ∙ rw (risen-mram (m .latch) family p)
+  episode-acts (onPsram {wr} p w) m f =
+      ap leaves (write-step (m .latch) (m .armed) (m .memory) (f .long) (f .valid) wr w (psram-is-free family (s .registers .cr4) (m .latch) (w .way) p))
+      ∙ rw (risen-psram (m .latch) family p)
 
   episode-told : {e : List Call} → Episode c e → (m : Moving) → Fit m → replies (chipAt c m) e ≡ told s e
   unfolding replies told
-  episode-told (onM {en} {wr} p q w) m f =
+  episode-told (onMram {en} {wr} p q w) m f =
       ap (λ (z : World). says z ∷ says (called (leaves z) wr) ∷ []) (enable-step m f en q)
       ∙ ap (λ (z : World). quietly s en Done ∷ says z ∷ [])
-      (write-step true false (m .memory) (f .long) (enabled-valid m f p) wr w (up-is-free (s .part) (s .registers .cr4) (w .way)))
-  episode-told (onP {wr} p w) m f =
+      (write-step true false (m .memory) (f .long) (enabled-valid m f p) wr w (up-is-free family (s .registers .cr4) (w .way)))
+  episode-told (onPsram {wr} p w) m f =
       ap (λ (z : World). says z ∷ [])
-      (write-step (m .latch) (m .armed) (m .memory) (f .long) (f .valid) wr w (P-is-free (s .part) (s .registers .cr4) (m .latch) (w .way) p))
+      (write-step (m .latch) (m .armed) (m .memory) (f .long) (f .valid) wr w (psram-is-free family (s .registers .cr4) (m .latch) (w .way) p))
 
   -- and leaves a state that episodes reach
   act-fit : (e : List Call) {m : Moving} → Fit m → Fit (act s e m)
@@ -208,7 +214,7 @@ module _ (c : Chip) (r : Ready c) where
   act-fit e {m} f =
       record {
         long = store-length (landed (burstOf s e)) (m .memory) ∙ f .long;
-        valid = valid-moved (s .part) d (m .latch) (m .armed) _ false (f .valid) (after-fits (s .part) (s .registers .cr4) _ (risen-fits m f));
+        valid = valid-moved family (s .part) d (m .latch) (m .armed) _ false (f .valid) (after-fits family (s .registers .cr4) _ (risen-fits m f));
       }
 
   -- ---- a list of episodes
@@ -268,7 +274,7 @@ module _ (c : Chip) (r : Ready c) where
   sizes : (9 ≤ s .n) × (length (c .lent .memory) ≡ 2 ^ s .n)
   unfolding sizedFor offered
   sizes =
-      let h₁ = both-true (offered (s .part) (s .n)) _ (both-true (knownPart (d .part)) _ (r .sized) .1) in
+      let h₁ = both-true (offered (s .part) (s .n)) _ (both-true (knownPart (d .make .part)) _ (r .sized) .1) in
       let h₂ = both-true (leb (leastOf (s .part)) (s .n)) (leb (s .n) (mostOf (s .part))) (h₁ .0) .0 in
       let h₃ = both-true (eqb (length (c .lent .memory)) (2 ^ s .n)) _ (h₁ .1) .0 in
       (le-trans (least (s .part)) (leb-true (leastOf (s .part)) (s .n) h₂), eqb-true (length (c .lent .memory)) (2 ^ s .n) h₃)

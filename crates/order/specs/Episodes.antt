@@ -5,10 +5,12 @@ use mathlib.Core.Bool.{true, false}
 use mathlib.Core.List.{List, [], _∷_, map, List·Mem}
 use lib.ListN.{length, getD}
 use Rattle.units.specs.Units.{bytes}
-use Rattle.parts.specs.declared.Part.the-variants.{M, P}
+use Rattle.parts.specs.declared.Family.the-variants.{Mram, Psram}
+use Rattle.parts.specs.Parts.{familyOf}
 use Rattle.opcodes.specs.declared.Control.the-variants.{WriteEnable}
 use Rattle.opcodes.specs.declared.Writing.{Writing}
-use Rattle.opcodes.specs.declared.Kind.the-variants.{Plain, WriteMemory}
+use Rattle.opcodes.specs.declared.Target.the-variants as Into
+use Rattle.opcodes.specs.declared.Kind.the-variants.{Plain, Write}
 use Rattle.counts.specs.declared.Counts.{Counts}
 use Rattle.record.specs.declared.Answer.{Answer}
 use Rattle.record.specs.declared.Answer.the-variants.{Done}
@@ -72,7 +74,7 @@ pub record MemoryWrite (s : Setting) (x : Call) : Type 0 where
   pub room : roomFor (x .samples) (x .room) ≡ true
   pub levels : sampled (x .samples) ≡ true
   pub way : Writing
-  pub kind : partsOf s (x .samples) .kind ≡ WriteMemory way
+  pub kind : partsOf s (x .samples) .kind ≡ Write (Into.Memory way)
   pub reach : refusedAt s (partsOf s (x .samples) .kind) (partsOf s (x .samples) .address) ≡ false
   pub some : 1 ≤ length (aimed s (x .samples) .sent)
 
@@ -81,10 +83,10 @@ pub record Enabling (c : Chip) (x : Call) : Type 0 where
   pub kind : partsOf (settingOf (c .device)) (x .samples) .kind ≡ Plain WriteEnable
   pub done : called c x .answer ≡ Done
 
--- AN EPISODE: on part M a write enable answered 0 and then the memory write, on part P the memory write alone
+-- AN EPISODE: on the MRAM a write enable answered 0 and then the memory write, on the PSRAM the memory write alone
 pub data Episode (c : Chip) : List Call → Type 0 where
-  onM : {en wr : Call} → settingOf (c .device) .part ≡ M → Enabling c en → MemoryWrite (settingOf (c .device)) wr → Episode c (en ∷ wr ∷ [])
-  onP : {wr : Call} → settingOf (c .device) .part ≡ P → MemoryWrite (settingOf (c .device)) wr → Episode c (wr ∷ [])
+  onMram : {en wr : Call} → familyOf (settingOf (c .device) .part) ≡ Mram → Enabling c en → MemoryWrite (settingOf (c .device)) wr → Episode c (en ∷ wr ∷ [])
+  onPsram : {wr : Call} → familyOf (settingOf (c .device) .part) ≡ Psram → MemoryWrite (settingOf (c .device)) wr → Episode c (wr ∷ [])
 
 -- ---- what it touches
 -- its burst: that of its last call

@@ -8,34 +8,36 @@ use mathlib.Core.Bool.{Bool, true, not, _&&_}
 use mathlib.Core.List.{List, [], _∷_, _++_, map, List·Permᴰ·cons, List·Permᴰ·swap, List·Permᴰ·trans}
 use lib.Dec.{T, eqb, lit≤}
 use lib.ListN.{length, getD, replicate}
+use Rattle.basis.specs.Counting.{howMany}
 use Rattle.basis.specs.Examples.{all, same}
 use Rattle.units.specs.declared.Wires.{Wires}
 use Rattle.units.specs.declared.Wires.the-variants.{One, Four}
 use Rattle.units.specs.Units.{clocksOf, byteClocks}
 use Rattle.wires.specs.Bits.{shiftOf, gatherFrom, spelled, spread, groupOf}
+use Rattle.parts.specs.declared.Part.the-variants.{M, P}
 use Rattle.parts.specs.Parts.{offered}
 use Rattle.opcodes.specs.declared.Writing.the-variants as Writes
 use Rattle.opcodes.specs.Kinds.{entryOf}
 use Rattle.commands.specs.Registers.{mappedOf}
 use Rattle.record.specs.Answers.{answerNumber}
-use Rattle.record.specs.Fresh.{freshM, freshP}
+use Rattle.record.specs.Fresh.{makeOf, freshOf}
 use Rattle.record.specs.Devices.{settingOf}
 use Rattle.record.specs.Latches.{latchMissing}
 use Rattle.record.specs.Changes.{armTo, modeTo, modeRegisterTo, statusTo}
 use Rattle.values.specs.Values.{statusAllowed, cr3Allowed, cr4Allowed, configurationsAllowed, modeRegisterAllowed}
-use Rattle.values.specs.States.{modeAllowed, zeros, registersM, registersP, volatileM, volatileP, identityM, identityP, validOf}
+use Rattle.values.specs.States.{modeAllowed, zeros, mramRegisters, psramRegisters, mramVolatile, psramVolatile, mramIdentity, psramIdentity, validOf}
 use Rattle.places.specs.Places.{readSpan, writeSpan, placeIn}
 use Rattle.places.specs.Protection.{shutMemory, sectionShut, protectedOf, areaProtectedOf}
 use Rattle.paper.specs.InForce.{addressBytes, asleepFor, refusedAt, stopped, decided, commandClocks, wiresFor, addressClocks, waitClocks, bodyFor}
 use Rattle.paper.specs.Reading.{kindRead, addressRead, partsOf, bytesIn, dataBytes}
-use Rattle.paper.specs.Storing.{protectedAt, putAt, takeAll}
+use Rattle.paper.specs.Storing.{protectedAt, putAt, allShut, takeAll}
 use Rattle.paper.specs.Driving.{byteRead, levelAt, along}
 use Rattle.paper.specs.Answers.{judge, unarmed}
 use Rattle.paper.specs.Building.{spreadAll}
-use Rattle.paper.specs.Transaction.{sizedFor, roomFor, sampled, factsOf, outputOf, over, clockedOf, transactOf}
+use Rattle.paper.specs.Transaction.{sizedFor, roomFor, sampled, sentBytes, factsOf, storedBy, outputOf, over, clockedOf, transactOf}
 use Rattle.order.specs.Steps.{Every}
 use Rattle.order.specs.Bursts.{placesFrom}
-use Rattle.order.specs.Episodes.{Chip, Call, Reply, afterCalls, replies, aimed, Enabling, Episode, onM, onP, touched, runs, Ready, AnyOrder}
+use Rattle.order.specs.Episodes.{Chip, Call, Reply, afterCalls, replies, aimed, Enabling, Episode, onMram, onPsram, touched, runs, Ready, AnyOrder}
 use Rattle.order.specs.Demand3.{demand-3}
 use Rattle.order.specs.Disjoint.{allDisjoint, pairwise-apart}
 
@@ -55,7 +57,7 @@ enables = sends (spelled One 8 0x06)
 
 -- ---- part M, armed by accident, its top 16 bytes protected
 abbrev chipM : Chip
-chipM = record { device = armTo true (statusTo 0x04 (freshM 10 (blank 4) (blank 8))); lent = record { memory = blank 1024; area = blank 256 } }
+chipM = record { device = armTo true (statusTo 0x04 (freshOf (makeOf M 10) (blank 8) (blank 8))); lent = record { memory = blank 1024; area = blank 256 } }
 
 abbrev past-top : List Call
 past-top = enables ∷ writes One 0x02 0x3FE (1 ∷ 2 ∷ 3 ∷ 4 ∷ []) ∷ []
@@ -71,7 +73,7 @@ listM = past-top ∷ protected ∷ beside ∷ []
 
 -- ---- part P in bus mode 4, groups of 16 bytes
 abbrev chipP : Chip
-chipP = record { device = modeRegisterTo 0x00 (modeTo 4 (freshP 10 (blank 8))); lent = record { memory = blank 1024; area = [] } }
+chipP = record { device = modeRegisterTo 0x00 (modeTo 4 (freshOf (makeOf P 10) (blank 8) (blank 8))); lent = record { memory = blank 1024; area = [] } }
 
 -- eighteen bytes from 0Eh come round in 00h to 0Fh and overwrite the first two
 abbrev lapping : List Call
@@ -86,46 +88,46 @@ listP = lapping ∷ folded ∷ []
 
 -- ---- the premises hold
 ready-M : Ready chipM
-unfolding shiftOf gatherFrom spelled groupOf spreadAll entryOf mappedOf statusAllowed cr3Allowed cr4Allowed configurationsAllowed modeRegisterAllowed modeAllowed zeros registersM registersP volatileM volatileP identityM identityP validOf readSpan writeSpan placeIn shutMemory sectionShut protectedOf areaProtectedOf asleepFor refusedAt stopped decided commandClocks wiresFor addressClocks waitClocks bodyFor kindRead addressRead partsOf bytesIn dataBytes protectedAt putAt takeAll byteRead levelAt along judge unarmed latchMissing offered sizedFor roomFor sampled factsOf outputOf over clockedOf transactOf
+unfolding shiftOf gatherFrom spelled groupOf spreadAll entryOf mappedOf statusAllowed cr3Allowed cr4Allowed configurationsAllowed modeRegisterAllowed modeAllowed zeros mramRegisters psramRegisters mramVolatile psramVolatile mramIdentity psramIdentity validOf readSpan writeSpan placeIn shutMemory sectionShut protectedOf areaProtectedOf asleepFor refusedAt stopped decided commandClocks wiresFor addressClocks waitClocks bodyFor kindRead addressRead partsOf bytesIn dataBytes protectedAt putAt howMany allShut takeAll byteRead levelAt along judge unarmed latchMissing offered sizedFor roomFor sampled sentBytes factsOf storedBy outputOf over clockedOf transactOf
 ready-M = record { sized = refl; valid = refl; awake = refl }
 
 ready-P : Ready chipP
-unfolding shiftOf gatherFrom spelled groupOf spreadAll entryOf mappedOf statusAllowed cr3Allowed cr4Allowed configurationsAllowed modeRegisterAllowed modeAllowed zeros registersM registersP volatileM volatileP identityM identityP validOf readSpan writeSpan placeIn shutMemory sectionShut protectedOf areaProtectedOf asleepFor refusedAt stopped decided commandClocks wiresFor addressClocks waitClocks bodyFor kindRead addressRead partsOf bytesIn dataBytes protectedAt putAt takeAll byteRead levelAt along judge unarmed latchMissing offered sizedFor roomFor sampled factsOf outputOf over clockedOf transactOf
+unfolding shiftOf gatherFrom spelled groupOf spreadAll entryOf mappedOf statusAllowed cr3Allowed cr4Allowed configurationsAllowed modeRegisterAllowed modeAllowed zeros mramRegisters psramRegisters mramVolatile psramVolatile mramIdentity psramIdentity validOf readSpan writeSpan placeIn shutMemory sectionShut protectedOf areaProtectedOf asleepFor refusedAt stopped decided commandClocks wiresFor addressClocks waitClocks bodyFor kindRead addressRead partsOf bytesIn dataBytes protectedAt putAt howMany allShut takeAll byteRead levelAt along judge unarmed latchMissing offered sizedFor roomFor sampled sentBytes factsOf storedBy outputOf over clockedOf transactOf
 ready-P = record { sized = refl; valid = refl; awake = refl }
 
 enabling : Enabling chipM enables
-unfolding shiftOf gatherFrom spelled groupOf spreadAll entryOf mappedOf statusAllowed cr3Allowed cr4Allowed configurationsAllowed modeRegisterAllowed modeAllowed zeros registersM registersP volatileM volatileP identityM identityP validOf readSpan writeSpan placeIn shutMemory sectionShut protectedOf areaProtectedOf asleepFor refusedAt stopped decided commandClocks wiresFor addressClocks waitClocks bodyFor kindRead addressRead partsOf bytesIn dataBytes protectedAt putAt takeAll byteRead levelAt along judge unarmed latchMissing offered sizedFor roomFor sampled factsOf outputOf over clockedOf transactOf
+unfolding shiftOf gatherFrom spelled groupOf spreadAll entryOf mappedOf statusAllowed cr3Allowed cr4Allowed configurationsAllowed modeRegisterAllowed modeAllowed zeros mramRegisters psramRegisters mramVolatile psramVolatile mramIdentity psramIdentity validOf readSpan writeSpan placeIn shutMemory sectionShut protectedOf areaProtectedOf asleepFor refusedAt stopped decided commandClocks wiresFor addressClocks waitClocks bodyFor kindRead addressRead partsOf bytesIn dataBytes protectedAt putAt howMany allShut takeAll byteRead levelAt along judge unarmed latchMissing offered sizedFor roomFor sampled sentBytes factsOf storedBy outputOf over clockedOf transactOf
 enabling = record { kind = refl; done = refl }
 
 episodes-M : Every (Episode chipM) listM
-unfolding aimed shiftOf gatherFrom spelled groupOf spreadAll entryOf mappedOf statusAllowed cr3Allowed cr4Allowed configurationsAllowed modeRegisterAllowed modeAllowed zeros registersM registersP volatileM volatileP identityM identityP validOf readSpan writeSpan placeIn shutMemory sectionShut protectedOf areaProtectedOf asleepFor refusedAt stopped decided commandClocks wiresFor addressClocks waitClocks bodyFor kindRead addressRead partsOf bytesIn dataBytes protectedAt putAt takeAll byteRead levelAt along judge unarmed latchMissing offered sizedFor roomFor sampled factsOf outputOf over clockedOf transactOf
+unfolding aimed shiftOf gatherFrom spelled groupOf spreadAll entryOf mappedOf statusAllowed cr3Allowed cr4Allowed configurationsAllowed modeRegisterAllowed modeAllowed zeros mramRegisters psramRegisters mramVolatile psramVolatile mramIdentity psramIdentity validOf readSpan writeSpan placeIn shutMemory sectionShut protectedOf areaProtectedOf asleepFor refusedAt stopped decided commandClocks wiresFor addressClocks waitClocks bodyFor kindRead addressRead partsOf bytesIn dataBytes protectedAt putAt howMany allShut takeAll byteRead levelAt along judge unarmed latchMissing offered sizedFor roomFor sampled sentBytes factsOf storedBy outputOf over clockedOf transactOf
 episodes-M = (
-  onM refl enabling (record { room = refl; levels = refl; way = Writes.Plain; kind = refl; reach = refl; some = lit≤ tt }),
+  onMram refl enabling (record { room = refl; levels = refl; way = Writes.Plain; kind = refl; reach = refl; some = lit≤ tt }),
   (
-    onM refl enabling (record { room = refl; levels = refl; way = Writes.Plain; kind = refl; reach = refl; some = lit≤ tt }),
+    onMram refl enabling (record { room = refl; levels = refl; way = Writes.Plain; kind = refl; reach = refl; some = lit≤ tt }),
     (
-      onM refl enabling (record { room = refl; levels = refl; way = Writes.Plain; kind = refl; reach = refl; some = lit≤ tt }),
+      onMram refl enabling (record { room = refl; levels = refl; way = Writes.Plain; kind = refl; reach = refl; some = lit≤ tt }),
       tt,
     ),
   ),
 )
 
 episodes-P : Every (Episode chipP) listP
-unfolding aimed shiftOf gatherFrom spelled groupOf spreadAll entryOf mappedOf statusAllowed cr3Allowed cr4Allowed configurationsAllowed modeRegisterAllowed modeAllowed zeros registersM registersP volatileM volatileP identityM identityP validOf readSpan writeSpan placeIn shutMemory sectionShut protectedOf areaProtectedOf asleepFor refusedAt stopped decided commandClocks wiresFor addressClocks waitClocks bodyFor kindRead addressRead partsOf bytesIn dataBytes protectedAt putAt takeAll byteRead levelAt along judge unarmed latchMissing offered sizedFor roomFor sampled factsOf outputOf over clockedOf transactOf
+unfolding aimed shiftOf gatherFrom spelled groupOf spreadAll entryOf mappedOf statusAllowed cr3Allowed cr4Allowed configurationsAllowed modeRegisterAllowed modeAllowed zeros mramRegisters psramRegisters mramVolatile psramVolatile mramIdentity psramIdentity validOf readSpan writeSpan placeIn shutMemory sectionShut protectedOf areaProtectedOf asleepFor refusedAt stopped decided commandClocks wiresFor addressClocks waitClocks bodyFor kindRead addressRead partsOf bytesIn dataBytes protectedAt putAt howMany allShut takeAll byteRead levelAt along judge unarmed latchMissing offered sizedFor roomFor sampled sentBytes factsOf storedBy outputOf over clockedOf transactOf
 episodes-P = (
-  onP refl (record { room = refl; levels = refl; way = Writes.Plain; kind = refl; reach = refl; some = lit≤ tt }),
+  onPsram refl (record { room = refl; levels = refl; way = Writes.Plain; kind = refl; reach = refl; some = lit≤ tt }),
   (
-    onP refl (record { room = refl; levels = refl; way = Writes.Quad; kind = refl; reach = refl; some = lit≤ tt }),
+    onPsram refl (record { room = refl; levels = refl; way = Writes.Quad; kind = refl; reach = refl; some = lit≤ tt }),
     tt,
   ),
 )
 
 apart-M : allDisjoint (settingOf (chipM .device)) listM ≡ true
-unfolding aimed placesFrom shiftOf gatherFrom spelled groupOf spreadAll entryOf mappedOf statusAllowed cr3Allowed cr4Allowed configurationsAllowed modeRegisterAllowed modeAllowed zeros registersM registersP volatileM volatileP identityM identityP validOf readSpan writeSpan placeIn shutMemory sectionShut protectedOf areaProtectedOf asleepFor refusedAt stopped decided commandClocks wiresFor addressClocks waitClocks bodyFor kindRead addressRead partsOf bytesIn dataBytes protectedAt putAt takeAll byteRead levelAt along judge unarmed latchMissing offered sizedFor roomFor sampled factsOf outputOf over clockedOf transactOf
+unfolding aimed placesFrom shiftOf gatherFrom spelled groupOf spreadAll entryOf mappedOf statusAllowed cr3Allowed cr4Allowed configurationsAllowed modeRegisterAllowed modeAllowed zeros mramRegisters psramRegisters mramVolatile psramVolatile mramIdentity psramIdentity validOf readSpan writeSpan placeIn shutMemory sectionShut protectedOf areaProtectedOf asleepFor refusedAt stopped decided commandClocks wiresFor addressClocks waitClocks bodyFor kindRead addressRead partsOf bytesIn dataBytes protectedAt putAt howMany allShut takeAll byteRead levelAt along judge unarmed latchMissing offered sizedFor roomFor sampled sentBytes factsOf storedBy outputOf over clockedOf transactOf
 apart-M = refl
 
 apart-P : allDisjoint (settingOf (chipP .device)) listP ≡ true
-unfolding aimed placesFrom shiftOf gatherFrom spelled groupOf spreadAll entryOf mappedOf statusAllowed cr3Allowed cr4Allowed configurationsAllowed modeRegisterAllowed modeAllowed zeros registersM registersP volatileM volatileP identityM identityP validOf readSpan writeSpan placeIn shutMemory sectionShut protectedOf areaProtectedOf asleepFor refusedAt stopped decided commandClocks wiresFor addressClocks waitClocks bodyFor kindRead addressRead partsOf bytesIn dataBytes protectedAt putAt takeAll byteRead levelAt along judge unarmed latchMissing offered sizedFor roomFor sampled factsOf outputOf over clockedOf transactOf
+unfolding aimed placesFrom shiftOf gatherFrom spelled groupOf spreadAll entryOf mappedOf statusAllowed cr3Allowed cr4Allowed configurationsAllowed modeRegisterAllowed modeAllowed zeros mramRegisters psramRegisters mramVolatile psramVolatile mramIdentity psramIdentity validOf readSpan writeSpan placeIn shutMemory sectionShut protectedOf areaProtectedOf asleepFor refusedAt stopped decided commandClocks wiresFor addressClocks waitClocks bodyFor kindRead addressRead partsOf bytesIn dataBytes protectedAt putAt howMany allShut takeAll byteRead levelAt along judge unarmed latchMissing offered sizedFor roomFor sampled sentBytes factsOf storedBy outputOf over clockedOf transactOf
 apart-P = refl
 
 -- SO DEMAND 3 SAYS SOMETHING OF THEM: for part M the list turned round, for part P the two exchanged
@@ -164,5 +166,5 @@ examples =
     ∷ []
 
 pub examples-hold : T (all examples)
-unfolding examples aimed placesFrom afterCalls replies shiftOf gatherFrom spelled groupOf spreadAll entryOf mappedOf statusAllowed cr3Allowed cr4Allowed configurationsAllowed modeRegisterAllowed modeAllowed zeros registersM registersP volatileM volatileP identityM identityP validOf readSpan writeSpan placeIn shutMemory sectionShut protectedOf areaProtectedOf asleepFor refusedAt stopped decided commandClocks wiresFor addressClocks waitClocks bodyFor kindRead addressRead partsOf bytesIn dataBytes protectedAt putAt takeAll byteRead levelAt along judge unarmed latchMissing offered sizedFor roomFor sampled factsOf outputOf over clockedOf transactOf
+unfolding examples aimed placesFrom afterCalls replies shiftOf gatherFrom spelled groupOf spreadAll entryOf mappedOf statusAllowed cr3Allowed cr4Allowed configurationsAllowed modeRegisterAllowed modeAllowed zeros mramRegisters psramRegisters mramVolatile psramVolatile mramIdentity psramIdentity validOf readSpan writeSpan placeIn shutMemory sectionShut protectedOf areaProtectedOf asleepFor refusedAt stopped decided commandClocks wiresFor addressClocks waitClocks bodyFor kindRead addressRead partsOf bytesIn dataBytes protectedAt putAt howMany allShut takeAll byteRead levelAt along judge unarmed latchMissing offered sizedFor roomFor sampled sentBytes factsOf storedBy outputOf over clockedOf transactOf
 examples-hold = tt

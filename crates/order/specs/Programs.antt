@@ -7,9 +7,8 @@ use Prim.Native.Nat.{ℕ}
 use mathlib.Core.List.{List, [], _∷_, _++_, map, List·Permᴰ, Pairwise}
 use Rattle.record.specs.Devices.{settingOf}
 use Rattle.paper.specs.Transaction.{World, transactOf}
-use Rattle.judging.specs.declared.Outcome.{Outcome}
-use Rattle.bursts.specs.Lends.{lends}
-use Rattle.parting.specs.Parting.{worldOf}
+use Rattle.record.specs.declared.Outcome.{Outcome}
+use Rattle.words.specs.Words.{lends, worldOf}
 use Rattle.order.specs.Steps.{Every}
 use Rattle.order.specs.Episodes.{Chip, Call, Reply, called, leaves, says, afterCalls, replies, Episode, Apart, runs, allReplies, Ready, AnyOrder}
 use Rattle.order.specs.Demand3.{demand-3}

@@ -4,55 +4,42 @@ use mathlib.Core.Path.{_≡_, refl, ap, _∙_, sym}
 use Prim.Native.Nat.{ℕ, _+_}
 use mathlib.Core.Bool.{Bool, true, false, not, _&&_}
 use mathlib.Core.List.{List, [], _∷_}
-use Rattle.basis.specs.Truth.{untrue, cond-same}
-use Rattle.parts.specs.declared.Part.{Part}
-use Rattle.parts.specs.declared.Part.the-variants.{M, P}
+use Rattle.basis.specs.Truth.{cond-same}
+use Rattle.units.specs.declared.Bytes.{Bytes}
+use Rattle.parts.specs.declared.Family.{Family}
+use Rattle.parts.specs.declared.Family.the-variants.{Mram, Psram}
+use Rattle.parts.specs.Parts.{familyOf}
 use Rattle.opcodes.specs.declared.Control.the-variants.{WriteEnable}
 use Rattle.opcodes.specs.declared.Kind.{Kind}
 use Rattle.opcodes.specs.declared.Kind.the-variants.{Plain}
 use Rattle.commands.specs.declared.plans.Body.{Body}
-use Rattle.commands.specs.declared.plans.Body.the-variants.{Nothing, FixedRead, AnyRead, FixedWrite, AnyWrite}
+use Rattle.commands.specs.declared.plans.Body.the-variants.{Nothing}
+use Rattle.commands.specs.Plans.{reads}
 use Rattle.record.specs.declared.Answer.the-variants.{Done}
 use Rattle.record.specs.declared.Device.{Device}
 use Rattle.record.specs.declared.Setting.{Setting}
-use Rattle.record.specs.Devices.{settingOf}
+use Rattle.record.specs.Devices.{settingOf, aimOf}
 use Rattle.record.specs.Latches.{latchNeeded, latchMissing}
 use Rattle.record.specs.Changes.{settledOf}
 use Rattle.record.specs.Answers.{isDone, refuses}
 use Rattle.values.specs.States.{validOf}
 use Rattle.paper.specs.InForce.{decided, bodyFor}
 use Rattle.paper.specs.Reading.{Parts, partsOf}
-use Rattle.paper.specs.Storing.{Lent, Taken, takeByte, takeAll}
-use Rattle.paper.specs.Answers.{resetting, unarmed, reservedFor, shutData, judge}
-use Rattle.paper.specs.Transaction.{World, sizedFor, roomFor, factsOf, clockedOf, transactOf}
-use Rattle.theorems.specs.ExactOrder.{table, exact-order, Clear, no-row, clear-rows}
-use Rattle.theorems.specs.Refused.{not-refused}
-use Rattle.theorems.specs.Driven.{reads}
-use Rattle.theorems.specs.Built.{writes}
+use Rattle.paper.specs.Storing.{Lent, storeByte}
+use Rattle.paper.specs.Table.{Clear, clear, done-when-clear}
+use Rattle.paper.specs.Answers.{resetting, unarmed, reservedFor, shutData, tableFor, judge}
+use Rattle.paper.specs.Transaction.{World, sizedFor, sentBytes, factsOf, storedBy, clockedOf, transactOf}
+use Rattle.paper.specs.CallLaws.{Accepted, accepted, when-accepted, not-refused}
+use Rattle.paper.specs.Laws.{still}
 use Rattle.order.specs.Episodes.{Call}
 use Rattle.order.specs.Calls.{quietly, relatch, worldAt, quiet}
 
 -- a command whose answer looks at neither
 pub record Steady (s : Setting) (k : Kind) (a : ℕ) : Type 0 where
   pub reset : resetting k ≡ false
-  pub latch : latchNeeded (s .part) (s .registers .cr4) k ≡ false
+  pub latch : latchNeeded (familyOf (s .part)) (s .registers .cr4) k ≡ false
   pub value : (v : List ℕ) → reservedFor (s .part) k v ≡ false
-  pub burst : (any : Bool) → shutData (bodyFor s k a) any ≡ false
-
--- bytes of what is no write leave nothing
-takes-nothing : (b : Body) → writes b ≡ false → (s : Setting) (k : Kind) (a i : ℕ) (xs : List ℕ) (t : Taken) → takeAll (takeByte b s k a) i xs t ≡ t
-unfolding takeAll
-takes-nothing b e s k a i [] t = refl
-takes-nothing Nothing e s k a i (x ∷ xs) t = takes-nothing Nothing e s k a (i + 1) xs t
-takes-nothing (FixedRead m) e s k a i (x ∷ xs) t = takes-nothing (FixedRead m) e s k a (i + 1) xs t
-takes-nothing AnyRead e s k a i (x ∷ xs) t = takes-nothing AnyRead e s k a (i + 1) xs t
-takes-nothing (FixedWrite m) e s k a i (x ∷ xs) t = untrue (sym e)
-takes-nothing AnyWrite e s k a i (x ∷ xs) t = untrue (sym e)
-
-not-both : (a b : Bool) → not (a && b) ≡ false → b ≡ true
-not-both true true e = refl
-not-both true false e = untrue (sym e)
-not-both false b e = untrue (sym e)
+  pub burst : (m : Bytes) → shutData (bodyFor s k a) (aimOf s k a) m ≡ false
 
 -- the same call on the same device with another latch, arming and memory
 module _ (d : Device) (l : Lent) (x : Call) (done : transactOf d l (x .samples) (x .room) .answer ≡ Done) (latch armed : Bool) (l′ : Lent)
@@ -67,69 +54,41 @@ module _ (d : Device) (l : Lent) (x : Call) (done : transactOf d l (x .samples) 
   abbrev d′ : Device
   d′ = relatch d latch armed
 
-  no-row-held : Clear (table d l (x .samples) (x .room))
-  no-row-held =
-      clear-rows (table d l (x .samples) (x .room)) (refl, (refl, (refl, (refl, (refl, (refl, (refl, (refl, (refl, (refl, (refl, (refl, (refl, (refl, tt))))))))))))))
-      (ap isDone (sym (exact-order d l (x .samples) (x .room)) ∙ done))
+  passed : Accepted d l (x .samples) (x .room)
+  passed = accepted d l (x .samples) (x .room) (ap refuses done)
+
+  no-row-held : Clear (tableFor d (factsOf s p))
+  unfolding clockedOf judge
+  no-row-held = clear (tableFor d (factsOf s p)) (ap isDone (sym (ap (λ (w : World). w .answer) (when-accepted d l (x .samples) (x .room) passed)) ∙ done))
 
   steady-reset : unarmed armed (p .kind) ≡ false
   unfolding unarmed
   steady-reset = rw (y .reset)
 
-  steady-latch : latchMissing (s .part) (s .registers .cr4) latch (p .kind) ≡ false
+  steady-latch : latchMissing (familyOf (s .part)) (s .registers .cr4) latch (p .kind) ≡ false
   unfolding latchMissing
   steady-latch = rw (y .latch)
 
   -- no row holds this time either
   pub again : transactOf d′ l′ (x .samples) (x .room) .answer ≡ Done
-  unfolding factsOf
+  unfolding clockedOf judge factsOf
   again =
       let c = no-row-held in
-      let c₃ = c .1 .1 .1 in
-      exact-order d′ l′ (x .samples) (x .room)
-      ∙ no-row (table d′ l′ (x .samples) (x .room)) (
-        rw (sized, not-both (sizedFor d l) (roomFor (x .samples) (x .room)) (c .0)) refl,
-        (
-          c .1 .0,
-          (
-            rw valid refl,
-            (
-              c₃ .0,
-              (
-                c₃ .1 .0,
-                (
-                  c₃ .1 .1 .0,
-                  (
-                    c₃ .1 .1 .1 .0,
-                    (
-                      c₃ .1 .1 .1 .1 .0,
-                      (
-                        c₃ .1 .1 .1 .1 .1 .0,
-                        (
-                          c₃ .1 .1 .1 .1 .1 .1 .0,
-                          (
-                            steady-reset,
-                            (
-                              steady-latch,
-                              (
-                                y .value _,
-                                (
-                                  y .burst _,
-                                  tt,
-                                ),
-                              ),
-                            ),
-                          ),
-                        ),
-                      ),
-                    ),
-                  ),
-                ),
-              ),
-            ),
-          ),
-        ),
-      )
+      ap (λ (w : World). w .answer) (when-accepted d′ l′ (x .samples) (x .room) (record { sized = sized; room = passed .room; levels = passed .levels; valid = valid }))
+      ∙ done-when-clear (tableFor d′ (factsOf s p))
+      (record {
+        cutCommand = c .cutCommand;
+        asleep = c .asleep;
+        unknown = c .unknown;
+        cutAddress = c .cutAddress;
+        refused = c .refused;
+        cutData = c .cutData;
+        long = c .long;
+        unarmed = steady-reset;
+        latch = steady-latch;
+        reserved = y .value _;
+        shut = y .burst _;
+      })
 
 -- ---- a write enable
 module _ (s : Setting) (k : Kind) (a : ℕ) (kind : k ≡ Plain WriteEnable) where
@@ -137,17 +96,17 @@ module _ (s : Setting) (k : Kind) (a : ℕ) (kind : k ≡ Plain WriteEnable) whe
   unfolding bodyFor
   enable-body = rw kind (cond-same (decided s (Plain WriteEnable) a) Nothing)
 
-  no-need : (p : Part) (cr4 : ℕ) → latchNeeded p cr4 (Plain WriteEnable) ≡ false
-  no-need M cr4 = refl
-  no-need P cr4 = refl
+  no-need : (f : Family) (cr4 : ℕ) → latchNeeded f cr4 (Plain WriteEnable) ≡ false
+  no-need Mram cr4 = refl
+  no-need Psram cr4 = refl
 
   pub enable-steady : Steady s k a
   enable-steady =
       record {
         reset = ap resetting kind;
-        latch = ap (latchNeeded (s .part) (s .registers .cr4)) kind ∙ no-need (s .part) (s .registers .cr4);
+        latch = ap (latchNeeded (familyOf (s .part)) (s .registers .cr4)) kind ∙ no-need (familyOf (s .part)) (s .registers .cr4);
         value = λ v. ap (λ (q : Kind). reservedFor (s .part) q v) kind;
-        burst = λ any. ap (λ (b : Body). shutData b any) enable-body;
+        burst = λ m. ap (λ (b : Body). shutData b (aimOf s k a) m) enable-body;
       }
 
 module _ (d : Device) (l : Lent) (x : Call) (kind : partsOf (settingOf d) (x .samples) .kind ≡ Plain WriteEnable)
@@ -171,15 +130,15 @@ module _ (d : Device) (l : Lent) (x : Call) (kind : partsOf (settingOf d) (x .sa
   clocked : transactOf e l′ (x .samples) (x .room) ≡ clockedOf e l′ (x .samples) (x .room)
   clocked = not-refused e l′ (x .samples) (x .room) (ap refuses enabled)
 
-  judged : judge e (factsOf e l′ q) ≡ Done
+  judged : judge e (factsOf t q) ≡ Done
   unfolding clockedOf
   judged = sym (ap (λ (w : World). w .answer) clocked) ∙ enabled
 
-  kept : factsOf e l′ q .taken .lent ≡ l′
-  unfolding factsOf
-  kept = rw body (ap (λ (z : Taken). z .lent) (takes-nothing Nothing refl t (q .kind) (q .address) 0 _ _))
+  kept : storedBy t q l′ ≡ l′
+  unfolding storedBy
+  kept = rw body (still (storeByte Nothing (aimOf t (q .kind) (q .address))) (λ i x m. refl) (sentBytes t q) 0 l′)
 
   -- A WRITE ENABLE, whole: the latch is up, the arming down, and nothing else moves
   pub enable-call : transactOf e l′ (x .samples) (x .room) ≡ worldAt (quietly t x Done) (relatch d true false) l′
   unfolding clockedOf factsOf
-  enable-call = clocked ∙ rw (judged, kept, quiet e l′ q Done (ap reads body)) (ap (λ (k : Kind). worldAt (quietly t x Done) (settledOf k (factsOf e l′ q .taken .value) Done e) l′) kind)
+  enable-call = clocked ∙ rw (judged, kept, quiet e l′ q Done (ap reads body)) (ap (λ (k : Kind). worldAt (quietly t x Done) (settledOf k (factsOf t q .tally .value) Done e) l′) kind)

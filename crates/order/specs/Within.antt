@@ -8,8 +8,9 @@ use mathlib.Core.Bool.{Bool, true, false}
 use lib.Pow.{shr-lt, pow-pos, pow-add}
 use lib.ListN.{getD}
 use Rattle.units.specs.declared.Bytes.{Bytes}
-use Rattle.parts.specs.declared.Part.{Part}
-use Rattle.parts.specs.declared.Part.the-variants.{M, P}
+use Rattle.parts.specs.declared.Family.{Family}
+use Rattle.parts.specs.declared.Family.the-variants.{Mram, Psram}
+use Rattle.parts.specs.Parts.{familyOf}
 use Rattle.parts.specs.Lengths.{groups}
 use Rattle.record.specs.declared.Setting.{Setting}
 use Rattle.places.specs.Addresses.{memorySize}
@@ -28,7 +29,7 @@ place-below : (k n : ℕ) → k ≤ n → (span : Bytes) → span .0 ≡ 2 ^ k �
 unfolding placeIn
 place-below k n h span e address i = rw e (omega (arith, group-in address k n h, mod-lt (address % 2 ^ n + i .0) (pow-pos k)))
 
--- how often two is doubled for part P's groups
+-- how often two is doubled for the PSRAM's groups
 group-power : (code : ℕ) → code < 4 → (k : ℕ) × ((k ≤ 9) × (getD groups code 0 ≡ 2 ^ k))
 group-power zero h = (4, (omega arith, refl))
 group-power (suc zero) h = (5, (omega arith, refl))
@@ -42,8 +43,8 @@ in-force mr0 false = group-power (mr0 / 32 % 4) (omega arith)
 
 pub write-below : (s : Setting) → 9 ≤ s .n → (address : ℕ) (i : Bytes) → writePlace s address i < 2 ^ s .n
 unfolding writeSpan
-write-below s h address i = by (s .part)
+write-below s h address i = by (familyOf (s .part))
   where
-    by : (p : Part) → placeIn (memorySize (s .n)) (writeSpanFor p s) address i < 2 ^ s .n
-    by M = place-below (s .n) (s .n) (omega arith) (memorySize (s .n)) refl address i
-    by P = let g = in-force (s .registers .mr0) (s .toggle) in place-below (g .0) (s .n) (omega (arith, g .1 .0)) (groupInForce (s .registers .mr0) (s .toggle)) (g .1 .1) address i
+    by : (f : Family) → placeIn (memorySize (s .n)) (writeSpanFor f s) address i < 2 ^ s .n
+    by Mram = place-below (s .n) (s .n) (omega arith) (memorySize (s .n)) refl address i
+    by Psram = let g = in-force (s .registers .mr0) (s .toggle) in place-below (g .0) (s .n) (omega (arith, g .1 .0)) (groupInForce (s .registers .mr0) (s .toggle)) (g .1 .1) address i

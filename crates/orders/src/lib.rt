@@ -11,6 +11,7 @@ use commands::plans::Body;
 use commands::plans::address_of;
 use commands::plans::body_of;
 use opcodes::Kind;
+use opcodes::Source;
 use opcodes::kind_of;
 use parts::Part;
 use record::mode_wires;
@@ -34,11 +35,11 @@ pub fn kind_asked(o: Order) -> Kind
     if !Part::is_known(o.part) {
         return Kind::Unknown;
     }
-    let p = Part::of(o.part);
-    if !values::mode_allowed(p, o.mode) {
+    let family = Part::of(o.part).family();
+    if !values::mode_allowed(family, o.mode) {
         return Kind::Unknown;
     }
-    kind_of(p, mode_wires(o.mode), o.opcode)
+    kind_of(family, mode_wires(o.mode), o.opcode)
 }
 
 // The data that may be asked for: up to eight bytes of any register, whatever the map says.
@@ -48,16 +49,15 @@ fn asked_of(k: Kind, b: Body) -> Body
     match k {
         Kind::Unknown => b,
         Kind::Plain(_) => b,
-        Kind::ReadRegister(_) => b,
-        Kind::ReadAny => Body::FixedRead(Bytes(8)),
-        Kind::ReadMode => b,
-        Kind::ReadIdentity => b,
-        Kind::WriteRegister(_) => b,
-        Kind::WriteMode => b,
-        Kind::ReadMemory(_) => b,
-        Kind::WriteMemory(_) => b,
-        Kind::ReadArea => b,
-        Kind::WriteArea => b,
+        Kind::Read(from) => match from {
+            Source::Register(_) => b,
+            Source::Map => Body::FixedRead(Bytes(8)),
+            Source::Mode => b,
+            Source::Identity => b,
+            Source::Memory(_) => b,
+            Source::Area => b,
+        },
+        Kind::Write(_) => b,
     }
 }
 

@@ -5,9 +5,14 @@
 use columns::digest_column;
 use digits::number_in;
 use orders::Order;
+use parts::LARGEST_AREA;
+use parts::LARGEST_MEMORY;
 use parts::Part;
+use parts::PartM;
+use parts::PartP;
 use places::memory_size;
 use record::Device;
+use record::Make;
 use record::is_done;
 use record::mode_wires;
 use text::flush;
@@ -127,9 +132,17 @@ fn opcode(a: Asked) -> u8 {
 // A fresh chip in the mode of the burst. Part M as it leaves the factory asks for no latch.
 fn chip(a: Asked) -> Device {
     if is_psram(a) {
-        return Device::fresh_p(a.n, [0u8; 8]).in_mode(4);
+        let psram = Make {
+            part: PartP::NUMBER,
+            n: a.n,
+        };
+        return Device::fresh(psram, [0u8; 8], [0u8; 8]).in_mode(4);
     }
-    Device::fresh_m(a.n, [0u8; 4], [1, 2, 3, 4, 5, 6, 7, 8]).in_mode(a.wires)
+    let mram = Make {
+        part: PartM::NUMBER,
+        n: a.n,
+    };
+    Device::fresh(mram, [0u8; 8], [1, 2, 3, 4, 5, 6, 7, 8]).in_mode(a.wires)
 }
 
 fn order(a: Asked, part: u8) -> Order {
@@ -250,9 +263,9 @@ fn clock_area(
     samples: &[u8],
     output: &mut [u8],
 ) -> u32 {
-    let mut area = [0u8; 256];
-    let edge = Part::of(d.part).area().0;
-    if 256 < edge {
+    let mut area = [0u8; LARGEST_AREA];
+    let edge = Part::of(d.make.part).area().0;
+    if LARGEST_AREA < edge {
         return 0;
     }
     clocked_all(d, repeats, memory, &mut area[..edge], samples, output)
@@ -262,7 +275,7 @@ fn clock(a: Asked, memory: &mut [u8], samples: &mut [u8], output: &mut [u8]) {
     let d = chip(a);
     let mut written = io::large_buffer();
     fill(memory, 0);
-    build(a, d.part, &mut written, samples);
+    build(a, d.make.part, &mut written, samples);
     let done = clock_area(d, a.repeats, memory, samples, output);
     tell(total(done, a.clocks), output, memory);
 }
@@ -314,8 +327,8 @@ fn pace(memory: &mut [u8], samples: &mut [u8], output: &mut [u8]) {
 }
 
 // The largest memory that a chip has.
-fn largest() -> [u8; 2097152] {
-    [0; 2097152]
+fn largest() -> [u8; LARGEST_MEMORY] {
+    [0; LARGEST_MEMORY]
 }
 
 fn main() {

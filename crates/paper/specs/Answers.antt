@@ -1,36 +1,38 @@
--- The answer: document 01's table "Answer numbers" from row 4 on, one test a row, in its order. The first row that holds gives the answer, and where none
--- does it is 0.
+-- The tests of the answer table (Table.antt), from what was read. Document 01, "Answer numbers", from row 4 on.
 use Prim.Native.Nat.{ℕ}
-use mathlib.Core.Bool.{Bool, true, false, cond, not, _&&_}
-use mathlib.Core.List.{List, [], _∷_}
+use mathlib.Core.Bool.{Bool, true, false, not, _&&_}
+use mathlib.Core.List.{List}
 use Rattle.units.specs.declared.Clocks.{Clocks}
+use Rattle.units.specs.declared.Bytes.{Bytes}
 use Rattle.units.specs.declared.Wires.{Wires}
 use Rattle.units.specs.Units.{bytes, clocks, fewer, fewerBytes, wholeOf}
 use Rattle.opcodes.specs.declared.Control.{Control}
 use Rattle.opcodes.specs.declared.Control.the-variants as Controls
 use Rattle.opcodes.specs.declared.Register.the-variants.{ModeRegister}
+use Rattle.opcodes.specs.declared.Target.the-variants as Into
 use Rattle.opcodes.specs.declared.Kind.{Kind}
 use Rattle.opcodes.specs.declared.Kind.the-variants as Kinds
 use Rattle.commands.specs.declared.plans.Body.{Body}
 use Rattle.commands.specs.declared.plans.Body.the-variants.{Nothing, FixedRead, AnyRead, FixedWrite, AnyWrite}
-use Rattle.counts.specs.declared.Counts.{Counts}
+use Rattle.progress.specs.declared.Tally.{Tally}
 use Rattle.parts.specs.declared.Part.{Part}
+use Rattle.parts.specs.Parts.{familyOf}
 use Rattle.record.specs.declared.Answer.{Answer}
-use Rattle.record.specs.declared.Answer.the-variants.{Done, Short, Unknown, Asleep, Address, Latch, Protected, Reserved, Long, Unarmed}
 use Rattle.record.specs.declared.Device.{Device}
 use Rattle.record.specs.declared.Setting.{Setting}
-use Rattle.record.specs.Devices.{settingOf}
+use Rattle.record.specs.declared.Aim.{Aim}
+use Rattle.record.specs.Devices.{settingOf, aimOf}
 use Rattle.record.specs.Latches.{latchMissing}
 use Rattle.values.specs.Values.{reservedOf}
 use Rattle.paper.specs.InForce.{unknown, asleepFor, refusedAt, commandClocks, addressClocks, bodyFor, wiresFor}
-use Rattle.paper.specs.Storing.{Taken}
+use Rattle.paper.specs.Storing.{allShut}
+use Rattle.paper.specs.Table.{Table, answerBy}
 
 -- what was read, as the checks see it
 pub record Facts : Type 0 where
   pub kind : Kind
   pub address : ℕ
-  pub counts : Counts
-  pub taken : Taken
+  pub tally : Tally
 
 -- 4, for want of data: a burst has brought no whole byte, or a register write not all of its own. Reads never want data.
 abbrev pub shortData : Body → Wires → Clocks → Bool
@@ -65,16 +67,8 @@ resets Controls.Toggle = false
 abbrev pub resetting : Kind → Bool
 resetting Kinds.Unknown = false
 resetting (Kinds.Plain c) = resets c
-resetting (Kinds.ReadRegister r) = false
-resetting Kinds.ReadAny = false
-resetting Kinds.ReadMode = false
-resetting Kinds.ReadIdentity = false
-resetting (Kinds.WriteRegister r) = false
-resetting Kinds.WriteMode = false
-resetting (Kinds.ReadMemory s) = false
-resetting (Kinds.WriteMemory s) = false
-resetting Kinds.ReadArea = false
-resetting Kinds.WriteArea = false
+resetting (Kinds.Read s) = false
+resetting (Kinds.Write t) = false
 
 unfoldable pub unarmed : Bool → Kind → Bool
 unarmed armed k = resetting k && not armed
@@ -83,53 +77,43 @@ unarmed armed k = resetting k && not armed
 abbrev pub reservedFor : Part → Kind → List ℕ → Bool
 reservedFor p Kinds.Unknown v = false
 reservedFor p (Kinds.Plain c) v = false
-reservedFor p (Kinds.ReadRegister r) v = false
-reservedFor p Kinds.ReadAny v = false
-reservedFor p Kinds.ReadMode v = false
-reservedFor p Kinds.ReadIdentity v = false
-reservedFor p (Kinds.WriteRegister r) v = reservedOf p r v
-reservedFor p Kinds.WriteMode v = reservedOf p ModeRegister v
-reservedFor p (Kinds.ReadMemory s) v = false
-reservedFor p (Kinds.WriteMemory s) v = false
-reservedFor p Kinds.ReadArea v = false
-reservedFor p Kinds.WriteArea v = false
+reservedFor p (Kinds.Read s) v = false
+reservedFor p (Kinds.Write (Into.Register r)) v = reservedOf p r v
+reservedFor p (Kinds.Write Into.Mode) v = reservedOf p ModeRegister v
+reservedFor p (Kinds.Write (Into.Memory r)) v = false
+reservedFor p (Kinds.Write Into.Area) v = false
 
--- 9: no byte of a burst was unprotected
-abbrev pub shutData : Body → Bool → Bool
-shutData Nothing any = false
-shutData (FixedRead b) any = false
-shutData AnyRead any = false
-shutData (FixedWrite b) any = false
-shutData AnyWrite any = not any
+-- 9: all of the whole bytes of a burst lie at protected places
+abbrev pub shutData : Body → Aim → Bytes → Bool
+shutData Nothing a m = false
+shutData (FixedRead b) a m = false
+shutData AnyRead a m = false
+shutData (FixedWrite b) a m = false
+shutData AnyWrite a m = allShut a m
 
--- the first row that holds
-abbrev pub firstOf : List (Bool × Answer) → Answer
-firstOf [] = Done
-firstOf (r ∷ rs) = cond (r .0) (r .1) (firstOf rs)
-
--- the rows after the address: 4, 11, 12, 8, 10, 9
-abbrev pub dataRows : Setting → Bool → Bool → Facts → List (Bool × Answer)
-dataRows s armed latch f =
+-- THE TESTS
+abbrev pub tableOf : Setting → Bool → Bool → Facts → Table
+tableOf s armed latch f =
     let k = f .kind in
+    let w = wiresFor s k in
     let b = bodyFor s k (f .address) in
-    (shortData b (wiresFor s k) (f .counts .body), Short)
-    ∷ (longRest b (f .counts .rest), Long)
-    ∷ (unarmed armed k, Unarmed)
-    ∷ (latchMissing (s .part) (s .registers .cr4) latch k, Latch)
-    ∷ (reservedFor (s .part) k (f .taken .value), Reserved)
-    ∷ (shutData b (f .taken .any), Protected)
-    ∷ []
+    let c = f .tally .counts in
+    record {
+      cutCommand = fewer (c .command) (commandClocks s);
+      asleep = asleepFor s k;
+      unknown = unknown k;
+      cutAddress = fewer (c .address) (addressClocks s k);
+      refused = refusedAt s k (f .address);
+      cutData = shortData b w (c .body);
+      long = longRest b (c .rest);
+      unarmed = unarmed armed k;
+      latch = latchMissing (familyOf (s .part)) (s .registers .cr4) latch k;
+      reserved = reservedFor (s .part) k (f .tally .value);
+      shut = shutData b (aimOf s k (f .address)) (wholeOf w (c .body));
+    }
 
--- THE TABLE: the rows that are decided before any data, and then those
-abbrev pub rows : Setting → Bool → Bool → Facts → List (Bool × Answer)
-rows s armed latch f =
-    let k = f .kind in
-    (fewer (f .counts .command) (commandClocks s), Short)
-    ∷ (asleepFor s k, Asleep)
-    ∷ (unknown k, Unknown)
-    ∷ (fewer (f .counts .address) (addressClocks s k), Short)
-    ∷ (refusedAt s k (f .address), Address)
-    ∷ dataRows s armed latch f
+abbrev pub tableFor : Device → Facts → Table
+tableFor d f = tableOf (settingOf d) (d .volatile .armed) (d .volatile .latch) f
 
 unfoldable pub judge : Device → Facts → Answer
-judge d f = firstOf (rows (settingOf d) (d .volatile .armed) (d .volatile .latch) f)
+judge d f = answerBy (tableFor d f)

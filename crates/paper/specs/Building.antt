@@ -8,8 +8,11 @@ use Rattle.units.specs.declared.Clocks.{Clocks}
 use Rattle.units.specs.declared.Bytes.{Bytes}
 use Rattle.units.specs.declared.Wires.{Wires}
 use Rattle.units.specs.Units.{clocks, bytes, clocksOf, byteClocks, fewer, fewerBytes, longest}
+use Rattle.basis.specs.Decisions.{firstOf}
 use Rattle.wires.specs.Bits.{spread}
-use Rattle.parts.specs.Parts.{partOf, knownPart}
+use Rattle.parts.specs.Parts.{partOf, familyOf, knownPart}
+use Rattle.opcodes.specs.declared.Source.{Source}
+use Rattle.opcodes.specs.declared.Source.the-variants as From
 use Rattle.opcodes.specs.declared.Kind.{Kind}
 use Rattle.opcodes.specs.declared.Kind.the-variants as Kinds
 use Rattle.opcodes.specs.Kinds.{kindOf}
@@ -19,13 +22,12 @@ use Rattle.commands.specs.declared.plans.Body.{Body}
 use Rattle.commands.specs.declared.plans.Body.the-variants.{Nothing, FixedRead, AnyRead, FixedWrite, AnyWrite}
 use Rattle.commands.specs.Plans.{laterWires, addressOf, waitsByRegister, waitOf, bodyOf}
 use Rattle.record.specs.declared.Answer.{Answer}
-use Rattle.record.specs.declared.Answer.the-variants.{Size, Short, Unknown, Address as Refused, Reserved, Long}
+use Rattle.record.specs.declared.Answer.the-variants.{Done, Size, Short, Unknown, Address as Refused, Reserved, Long}
 use Rattle.record.specs.Devices.{modeWires}
 use Rattle.record.specs.Answers.{isDone}
 use Rattle.values.specs.States.{modeAllowed}
 use Rattle.paper.specs.InForce.{addressLength, unknown}
 use Rattle.paper.specs.Reading.{many}
-use Rattle.paper.specs.Answers.{firstOf}
 use Rattle.paper.specs.Transaction.{over}
 
 -- what the host is asked to build: a read has a number of bytes, a write has its bytes
@@ -47,22 +49,22 @@ abbrev pub sentOn : Order → Wires
 sentOn o = modeWires (o .mode)
 
 unfoldable pub kindAsked : Order → Kind
-kindAsked o = cond (knownPart (o .part) && modeAllowed (partOf (o .part)) (o .mode)) (kindOf (partOf (o .part)) (sentOn o) (o .opcode)) Kinds.Unknown
+kindAsked o = cond (knownPart (o .part) && modeAllowed (familyOf (partOf (o .part))) (o .mode)) (kindOf (familyOf (partOf (o .part))) (sentOn o) (o .opcode)) Kinds.Unknown
 
 -- The data that the host may ask for. It does not look at 65's map: that takes up to eight bytes whatever the address.
+abbrev pub askedOf : Source → Body → Body
+askedOf (From.Register r) b = b
+askedOf From.Map b = FixedRead (bytes 8)
+askedOf From.Mode b = b
+askedOf From.Identity b = b
+askedOf (From.Memory r) b = b
+askedOf From.Area b = b
+
 abbrev pub asked : Kind → Body → Body
 asked Kinds.Unknown b = b
 asked (Kinds.Plain c) b = b
-asked (Kinds.ReadRegister r) b = b
-asked Kinds.ReadAny b = FixedRead (bytes 8)
-asked Kinds.ReadMode b = b
-asked Kinds.ReadIdentity b = b
-asked (Kinds.WriteRegister r) b = b
-asked Kinds.WriteMode b = b
-asked (Kinds.ReadMemory s) b = b
-asked (Kinds.WriteMemory s) b = b
-asked Kinds.ReadArea b = b
-asked Kinds.WriteArea b = b
+asked (Kinds.Read s) b = askedOf s b
+asked (Kinds.Write t) b = b
 
 abbrev pub bodyAsked : Order → Kind → Body
 bodyAsked o k = asked k (bodyOf (partOf (o .part)) k (o .address))
@@ -126,16 +128,38 @@ builtOf o k =
     ++ (silent (waitOf k w (o .cr2))
     ++ dataSent (bodyAsked o k) v o))
 
--- THE ROWS, in the order of checking
-abbrev pub buildRows : Order → Kind → List ℕ → List (Bool × Answer)
-buildRows o k out =
-    (unknown k, Unknown)
-    ∷ (beyond k (o .address), Refused)
-    ∷ (overlong k (o .cr2), Reserved)
-    ∷ (tooFew (bodyAsked o k) (o .wanted) (manyBytes (o .written)), Short)
-    ∷ (tooMany (bodyAsked o k) (o .wanted) (manyBytes (o .written)), Long)
-    ∷ (fewer longest (many (builtOf o k)) || fewer (many out) (many (builtOf o k)), Size)
+-- THE ROWS, a named test for each, and their order of checking
+pub record Refusals : Type 0 where
+  pub unknown : Bool
+  pub beyond : Bool
+  pub overlong : Bool
+  pub tooFew : Bool
+  pub tooMany : Bool
+  pub noRoom : Bool
+
+abbrev pub refusalsOf : Order → Kind → List ℕ → Refusals
+refusalsOf o k out =
+    record {
+      unknown = unknown k;
+      beyond = beyond k (o .address);
+      overlong = overlong k (o .cr2);
+      tooFew = tooFew (bodyAsked o k) (o .wanted) (manyBytes (o .written));
+      tooMany = tooMany (bodyAsked o k) (o .wanted) (manyBytes (o .written));
+      noRoom = fewer longest (many (builtOf o k)) || fewer (many out) (many (builtOf o k));
+    }
+
+abbrev pub checked : Refusals → List (Bool × Answer)
+checked r =
+    (r .unknown, Unknown)
+    ∷ (r .beyond, Refused)
+    ∷ (r .overlong, Reserved)
+    ∷ (r .tooFew, Short)
+    ∷ (r .tooMany, Long)
+    ∷ (r .noRoom, Size)
     ∷ []
+
+abbrev pub buildAnswer : Order → Kind → List ℕ → Answer
+buildAnswer o k out = firstOf Done (checked (refusalsOf o k out))
 
 -- What a call of the host half tells, and what it leaves in the buffer. The number is of clocks where samples are built, and of bytes where bytes are
 -- gathered: the unit is part of the type.
@@ -153,4 +177,4 @@ told unit v xs out =
 unfoldable pub buildOf : Order → List ℕ → Told Clocks
 buildOf o out =
     let k = kindAsked o in
-    told clocks (firstOf (buildRows o k out)) (builtOf o k) out
+    told clocks (buildAnswer o k out) (builtOf o k) out

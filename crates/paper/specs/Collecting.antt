@@ -6,12 +6,12 @@ use lib.Dec.{eqb}
 use Rattle.units.specs.declared.Bytes.{Bytes}
 use Rattle.units.specs.declared.Wires.{Wires}
 use Rattle.units.specs.Units.{bytes, fewerBytes}
+use Rattle.basis.specs.Decisions.{firstOf}
 use Rattle.wires.specs.Levels.{seenOf, drivenOf}
 use Rattle.record.specs.declared.Answer.{Answer}
-use Rattle.record.specs.declared.Answer.the-variants.{Size, Sample, Unknown}
+use Rattle.record.specs.declared.Answer.the-variants.{Done, Size, Sample, Unknown}
 use Rattle.record.specs.Devices.{modeWires}
 use Rattle.paper.specs.Reading.{dataBytes}
-use Rattle.paper.specs.Answers.{firstOf}
 use Rattle.paper.specs.Building.{manyBytes, Told, told}
 
 -- one, two or four wires
@@ -32,14 +32,31 @@ strange w (x ∷ xs) = (not (eqb x 0) && not (drivenOf w x)) || strange w xs
 unfoldable pub collected : Wires → List ℕ → List ℕ
 collected w xs = dataBytes w (seenIn w xs)
 
-abbrev pub collectRows : ℕ → List ℕ → List ℕ → List (Bool × Answer)
-collectRows wires xs out =
+-- THE ROWS, a named test for each, and their order of checking
+pub record Unfit : Type 0 where
+  pub noWires : Bool
+  pub strange : Bool
+  pub noRoom : Bool
+
+abbrev pub unfitOf : ℕ → List ℕ → List ℕ → Unfit
+unfitOf wires xs out =
     let w = modeWires wires in
-    (not (isWires wires), Unknown)
-    ∷ (strange w xs, Sample)
-    ∷ (fewerBytes (manyBytes out) (manyBytes (collected w xs)), Size)
+    record {
+      noWires = not (isWires wires);
+      strange = strange w xs;
+      noRoom = fewerBytes (manyBytes out) (manyBytes (collected w xs));
+    }
+
+abbrev pub sifted : Unfit → List (Bool × Answer)
+sifted u =
+    (u .noWires, Unknown)
+    ∷ (u .strange, Sample)
+    ∷ (u .noRoom, Size)
     ∷ []
+
+abbrev pub collectAnswer : ℕ → List ℕ → List ℕ → Answer
+collectAnswer wires xs out = firstOf Done (sifted (unfitOf wires xs out))
 
 -- GATHER: the bytes and how many they are, or a refusal
 unfoldable pub collectOf : ℕ → List ℕ → List ℕ → Told Bytes
-collectOf wires xs out = told bytes (firstOf (collectRows wires xs out)) (collected (modeWires wires) xs) out
+collectOf wires xs out = told bytes (collectAnswer wires xs out) (collected (modeWires wires) xs) out

@@ -8,8 +8,10 @@ use Rattle.units.specs.Units.{clocks, wholeOf}
 use Rattle.wires.specs.Bits.{groupOf}
 use Rattle.wires.specs.Levels.{levelOf}
 use Rattle.opcodes.specs.declared.Register.the-variants.{ModeRegister, LongIdentity}
+use Rattle.opcodes.specs.declared.Source.{Source}
+use Rattle.opcodes.specs.declared.Source.the-variants as From
 use Rattle.opcodes.specs.declared.Kind.{Kind}
-use Rattle.opcodes.specs.declared.Kind.the-variants.{Unknown, Plain, ReadRegister, ReadAny, ReadMode, ReadIdentity, WriteRegister, WriteMode, ReadMemory, WriteMemory, ReadArea, WriteArea}
+use Rattle.opcodes.specs.declared.Kind.the-variants.{Unknown, Plain, Read, Write}
 use Rattle.commands.specs.declared.registers.Mapped.{Mapped}
 use Rattle.commands.specs.declared.registers.Mapped.the-variants.{At, Nowhere}
 use Rattle.commands.specs.Registers.{mappedOf}
@@ -26,20 +28,21 @@ abbrev pub mappedByte : Device → Mapped → Bytes → ℕ
 mappedByte d (At r) i = shownByte d r i
 mappedByte d Nowhere i = 0
 
+-- byte i of what a read finds at its source
+abbrev pub foundAt : Device → Source → ℕ → Lent → Bytes → ℕ
+foundAt d (From.Register r) address l i = shownByte d r i
+foundAt d From.Map address l i = mappedByte d (mappedOf (settingOf d .part) address) i
+foundAt d From.Mode address l i = shownByte d ModeRegister i
+foundAt d From.Identity address l i = shownByte d LongIdentity i
+foundAt d (From.Memory r) address l i = getD (l .memory) (readPlace (settingOf d) address i) 0
+foundAt d From.Area address l i = getD (l .area) (areaPlace (settingOf d .part) address i) 0
+
 -- byte i of what a command reads
 unfoldable pub byteRead : Device → Kind → ℕ → Lent → Bytes → ℕ
 byteRead d Unknown address l i = 0
 byteRead d (Plain c) address l i = 0
-byteRead d (ReadRegister r) address l i = shownByte d r i
-byteRead d ReadAny address l i = mappedByte d (mappedOf (settingOf d .part) address) i
-byteRead d ReadMode address l i = shownByte d ModeRegister i
-byteRead d ReadIdentity address l i = shownByte d LongIdentity i
-byteRead d (WriteRegister r) address l i = 0
-byteRead d WriteMode address l i = 0
-byteRead d (ReadMemory s) address l i = getD (l .memory) (readPlace (settingOf d) address i) 0
-byteRead d (WriteMemory s) address l i = 0
-byteRead d ReadArea address l i = getD (l .area) (areaPlace (settingOf d .part) address i) 0
-byteRead d WriteArea address l i = 0
+byteRead d (Read s) address l i = foundAt d s address l i
+byteRead d (Write t) address l i = 0
 
 -- the output byte of data clock t, counted from 0
 unfoldable pub levelAt : Device → Kind → ℕ → Lent → Clocks → ℕ

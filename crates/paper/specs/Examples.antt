@@ -5,6 +5,7 @@ use mathlib.Core.Bool.{Bool, true, not, _&&_}
 use mathlib.Core.List.{List, [], _∷_, _++_, map}
 use lib.Dec.{T, eqb}
 use lib.ListN.{length, getD, drop, take, replicate, set}
+use Rattle.basis.specs.Counting.{howMany}
 use Rattle.basis.specs.Examples.{all, same}
 use Rattle.units.specs.declared.Clocks.{Clocks}
 use Rattle.units.specs.declared.Bytes.{Bytes}
@@ -12,34 +13,35 @@ use Rattle.units.specs.declared.Wires.{Wires}
 use Rattle.units.specs.declared.Wires.the-variants.{One, Two, Four}
 use Rattle.units.specs.Units.{bytes, clocksOf, byteClocks}
 use Rattle.wires.specs.Bits.{shiftOf, gatherFrom, spelled, spread, groupOf}
+use Rattle.parts.specs.declared.Part.the-variants.{M, P}
 use Rattle.parts.specs.Parts.{offered}
 use Rattle.opcodes.specs.Kinds.{entryOf}
 use Rattle.commands.specs.Registers.{mappedOf}
 use Rattle.record.specs.declared.Device.{Device}
 use Rattle.record.specs.Answers.{answerNumber}
 use Rattle.record.specs.Devices.{settingOf}
-use Rattle.record.specs.Fresh.{freshM, freshP}
+use Rattle.record.specs.Fresh.{makeOf, freshOf}
 use Rattle.record.specs.Latches.{latchMissing}
 use Rattle.record.specs.Changes.{armTo, latchTo, sleepTo, modeTo, modeRegisterTo, statusTo, configurationsTo}
 use Rattle.values.specs.Values.{statusAllowed, cr3Allowed, cr4Allowed, configurationsAllowed, modeRegisterAllowed}
-use Rattle.values.specs.States.{modeAllowed, zeros, registersM, registersP, volatileM, volatileP, identityM, identityP, validOf}
+use Rattle.values.specs.States.{modeAllowed, zeros, mramRegisters, psramRegisters, mramVolatile, psramVolatile, mramIdentity, psramIdentity, validOf}
 use Rattle.places.specs.Places.{readSpan, writeSpan, placeIn}
 use Rattle.places.specs.Protection.{shutMemory, sectionShut, protectedOf, areaProtectedOf}
 use Rattle.paper.specs.InForce.{addressBytes, asleepFor, refusedAt, stopped, decided, commandClocks, wiresFor, addressClocks, waitClocks, bodyFor}
 use Rattle.paper.specs.Reading.{kindRead, addressRead, partsOf, bytesIn, dataBytes}
-use Rattle.paper.specs.Storing.{Lent, protectedAt, putAt, takeAll}
+use Rattle.paper.specs.Storing.{Lent, protectedAt, putAt, allShut, takeAll}
 use Rattle.paper.specs.Driving.{byteRead, levelAt, along}
 use Rattle.paper.specs.Answers.{judge, unarmed}
 use Rattle.paper.specs.Collecting.{seenIn, strange, collected, collectOf}
 use Rattle.paper.specs.Building.{Order, Told, kindAsked, beyond, overlong, spreadAll, builtOf, buildOf}
-use Rattle.paper.specs.Transaction.{World, powerOf, sizedFor, roomFor, sampled, factsOf, outputOf, over, clockedOf, transactOf}
+use Rattle.paper.specs.Transaction.{World, powerOf, sizedFor, roomFor, sampled, sentBytes, factsOf, storedBy, outputOf, over, clockedOf, transactOf}
 
 -- chips of 1,024 bytes
 abbrev m : Device
-m = freshM 10 (0 ∷ 0 ∷ 0 ∷ 0 ∷ []) (replicate 8 0)
+m = freshOf (makeOf M 10) (replicate 8 0) (replicate 8 0)
 
 abbrev p : Device
-p = freshP 10 (replicate 8 0)
+p = freshOf (makeOf P 10) (replicate 8 0) (replicate 8 0)
 
 abbrev blank : ℕ → List ℕ
 blank n = replicate n 0
@@ -117,7 +119,7 @@ examples =
     ∷ []
 
 pub examples-hold : T (all examples)
-unfolding examples kindAsked beyond overlong spreadAll builtOf buildOf shiftOf gatherFrom spelled groupOf entryOf mappedOf statusAllowed cr3Allowed cr4Allowed configurationsAllowed modeRegisterAllowed modeAllowed zeros registersM registersP volatileM volatileP identityM identityP validOf readSpan writeSpan placeIn shutMemory sectionShut protectedOf areaProtectedOf asleepFor refusedAt stopped decided commandClocks wiresFor addressClocks waitClocks bodyFor kindRead addressRead partsOf bytesIn dataBytes protectedAt putAt takeAll byteRead levelAt along judge unarmed latchMissing offered sizedFor roomFor sampled factsOf outputOf over clockedOf transactOf
+unfolding examples kindAsked beyond overlong spreadAll builtOf buildOf shiftOf gatherFrom spelled groupOf entryOf mappedOf statusAllowed cr3Allowed cr4Allowed configurationsAllowed modeRegisterAllowed modeAllowed zeros mramRegisters psramRegisters mramVolatile psramVolatile mramIdentity psramIdentity validOf readSpan writeSpan placeIn shutMemory sectionShut protectedOf areaProtectedOf asleepFor refusedAt stopped decided commandClocks wiresFor addressClocks waitClocks bodyFor kindRead addressRead partsOf bytesIn dataBytes protectedAt putAt howMany allShut takeAll byteRead levelAt along judge unarmed latchMissing offered sizedFor roomFor sampled sentBytes factsOf storedBy outputOf over clockedOf transactOf
 examples-hold = tt
 
 -- transactions on one chip, one after the other: their answers
@@ -134,10 +136,10 @@ inWriteMode mode = configurationsTo (0x00 ∷ 0x08 ∷ 0x00 ∷ (0x04 + mode) �
 
 -- chips whose identities show which byte is which
 abbrev namedM : Device
-namedM = freshM 10 (1 ∷ 2 ∷ 3 ∷ 4 ∷ []) (11 ∷ 12 ∷ 13 ∷ 14 ∷ 15 ∷ 16 ∷ 17 ∷ 18 ∷ [])
+namedM = freshOf (makeOf M 10) (1 ∷ 2 ∷ 3 ∷ 4 ∷ replicate 4 0) (11 ∷ 12 ∷ 13 ∷ 14 ∷ 15 ∷ 16 ∷ 17 ∷ 18 ∷ [])
 
 abbrev namedP : Device
-namedP = freshP 10 (1 ∷ 2 ∷ 3 ∷ 4 ∷ 5 ∷ 6 ∷ 7 ∷ 8 ∷ [])
+namedP = freshOf (makeOf P 10) (1 ∷ 2 ∷ 3 ∷ 4 ∷ 5 ∷ 6 ∷ 7 ∷ 8 ∷ []) (replicate 8 0)
 
 -- so many bytes of part M's identity
 abbrev reads9F : ℕ → Order
@@ -146,7 +148,7 @@ reads9F n = record { part = 1; opcode = 0x9F; mode = 1; address = 0; cr2 = 0; wr
 -- a read that the host builds, sent to a device, and gathered from what it drives on the wires of its data
 abbrev asks : Device → Lent → ℕ → ℕ → ℕ → ℕ → ℕ → Told Bytes
 asks d l opcode mode address wanted wires =
-    let o : Order = record { part = d .part; opcode = opcode; mode = mode; address = address; cr2 = 0; written = []; wanted = bytes wanted } in
+    let o : Order = record { part = d .make .part; opcode = opcode; mode = mode; address = address; cr2 = 0; written = []; wanted = bytes wanted } in
     let t = buildOf o (replicate 128 0xA5) in
     collectOf wires (sent d l (take (t .number .0) (t .buffer)) .output) (replicate 10 0xA5)
 
@@ -194,5 +196,5 @@ further =
     ∷ []
 
 pub further-hold : T (all further)
-unfolding further answersIn powerOf kindAsked beyond overlong spreadAll builtOf buildOf seenIn strange collected collectOf shiftOf gatherFrom spelled groupOf entryOf mappedOf statusAllowed cr3Allowed cr4Allowed configurationsAllowed modeRegisterAllowed modeAllowed zeros registersM registersP volatileM volatileP identityM identityP validOf readSpan writeSpan placeIn shutMemory sectionShut protectedOf areaProtectedOf asleepFor refusedAt stopped decided commandClocks wiresFor addressClocks waitClocks bodyFor kindRead addressRead partsOf bytesIn dataBytes protectedAt putAt takeAll byteRead levelAt along judge unarmed latchMissing offered sizedFor roomFor sampled factsOf outputOf over clockedOf transactOf
+unfolding further answersIn powerOf kindAsked beyond overlong spreadAll builtOf buildOf seenIn strange collected collectOf shiftOf gatherFrom spelled groupOf entryOf mappedOf statusAllowed cr3Allowed cr4Allowed configurationsAllowed modeRegisterAllowed modeAllowed zeros mramRegisters psramRegisters mramVolatile psramVolatile mramIdentity psramIdentity validOf readSpan writeSpan placeIn shutMemory sectionShut protectedOf areaProtectedOf asleepFor refusedAt stopped decided commandClocks wiresFor addressClocks waitClocks bodyFor kindRead addressRead partsOf bytesIn dataBytes protectedAt putAt howMany allShut takeAll byteRead levelAt along judge unarmed latchMissing offered sizedFor roomFor sampled sentBytes factsOf storedBy outputOf over clockedOf transactOf
 further-hold = tt

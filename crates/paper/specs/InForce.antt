@@ -9,7 +9,7 @@ use Rattle.units.specs.Units.{clocks, bytes, clocksOf, byteClocks}
 use Rattle.opcodes.specs.declared.Control.{Control}
 use Rattle.opcodes.specs.declared.Control.the-variants as Controls
 use Rattle.opcodes.specs.declared.Kind.{Kind}
-use Rattle.opcodes.specs.declared.Kind.the-variants.{Unknown, Plain, ReadRegister, ReadAny, ReadMode, ReadIdentity, WriteRegister, WriteMode, ReadMemory, WriteMemory, ReadArea, WriteArea}
+use Rattle.opcodes.specs.declared.Kind.the-variants.{Unknown, Plain, Read, Write}
 use Rattle.commands.specs.declared.plans.Address.{Address}
 use Rattle.commands.specs.declared.plans.Address.the-variants.{Absent, InMemory, InArea, InMap, LowNibbleZero, Ignored}
 use Rattle.commands.specs.declared.plans.Body.{Body}
@@ -35,30 +35,14 @@ wake Controls.Toggle = false
 abbrev pub wakes : Kind → Bool
 wakes Unknown = false
 wakes (Plain c) = wake c
-wakes (ReadRegister r) = false
-wakes ReadAny = false
-wakes ReadMode = false
-wakes ReadIdentity = false
-wakes (WriteRegister r) = false
-wakes WriteMode = false
-wakes (ReadMemory s) = false
-wakes (WriteMemory s) = false
-wakes ReadArea = false
-wakes WriteArea = false
+wakes (Read s) = false
+wakes (Write t) = false
 
 abbrev pub unknown : Kind → Bool
 unknown Unknown = true
 unknown (Plain c) = false
-unknown (ReadRegister r) = false
-unknown ReadAny = false
-unknown ReadMode = false
-unknown ReadIdentity = false
-unknown (WriteRegister r) = false
-unknown WriteMode = false
-unknown (ReadMemory s) = false
-unknown (WriteMemory s) = false
-unknown ReadArea = false
-unknown WriteArea = false
+unknown (Read s) = false
+unknown (Write t) = false
 
 -- 6: asleep, and the command does not wake
 unfoldable pub asleepFor : Setting → Kind → Bool

@@ -2,8 +2,10 @@ pub mod InForce
 pub mod Reading
 pub mod Storing
 pub mod Driving
+pub mod Table
 pub mod Answers
 pub mod Transaction
+pub mod CallLaws
 pub mod Building
 pub mod Collecting
 pub mod Laws

@@ -7,6 +7,7 @@ use Rattle.units.specs.declared.Clocks.{Clocks}
 use Rattle.units.specs.declared.Wires.{Wires}
 use Rattle.units.specs.Units.{clocks, atMost, perByte, clocksOf, wholeOf}
 use Rattle.wires.specs.Bits.{gather}
+use Rattle.parts.specs.Parts.{familyOf}
 use Rattle.opcodes.specs.declared.Kind.{Kind}
 use Rattle.opcodes.specs.declared.Kind.the-variants.{Unknown}
 use Rattle.opcodes.specs.Kinds.{kindOf}
@@ -34,7 +35,7 @@ full c xs = atMost c (many xs)
 
 -- the kind that the command spells; there is none while bits are missing
 unfoldable pub kindRead : Setting → List ℕ → Kind
-kindRead s xs = cond (full (commandClocks s) xs) (kindOf (s .part) (s .wires) (gather (s .wires) xs)) Unknown
+kindRead s xs = cond (full (commandClocks s) xs) (kindOf (familyOf (s .part)) (s .wires) (gather (s .wires) xs)) Unknown
 
 -- the address that the samples spell; 0 while bits are missing
 unfoldable pub addressRead : Setting → Kind → List ℕ → ℕ

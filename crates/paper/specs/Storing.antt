@@ -3,14 +3,17 @@
 use Prim.Native.Nat.{ℕ, _+_}
 use mathlib.Core.Bool.{Bool, true, false, cond}
 use mathlib.Core.List.{List, [], _∷_}
-use lib.ListN.{set, replicate}
+use lib.Dec.{eqb}
+use lib.ListN.{set}
+use Rattle.basis.specs.Counting.{howMany}
 use Rattle.units.specs.declared.Bytes.{Bytes}
 use Rattle.units.specs.Units.{bytes}
+use Rattle.opcodes.specs.declared.Target.the-variants as Into
 use Rattle.opcodes.specs.declared.Kind.{Kind}
-use Rattle.opcodes.specs.declared.Kind.the-variants.{Unknown, Plain, ReadRegister, ReadAny, ReadMode, ReadIdentity, WriteRegister, WriteMode, ReadMemory, WriteMemory, ReadArea, WriteArea}
+use Rattle.opcodes.specs.declared.Kind.the-variants.{Unknown, Plain, Read, Write}
 use Rattle.commands.specs.declared.plans.Body.{Body}
 use Rattle.commands.specs.declared.plans.Body.the-variants.{Nothing, FixedRead, AnyRead, FixedWrite, AnyWrite}
-use Rattle.record.specs.declared.Setting.{Setting}
+use Rattle.record.specs.declared.Aim.{Aim}
 use Rattle.places.specs.Places.{writePlace, areaPlace}
 use Rattle.places.specs.Protection.{protectedOf, areaProtectedOf}
 
@@ -19,55 +22,57 @@ pub record Lent : Type 0 where
   pub memory : List ℕ
   pub area : List ℕ
 
--- 4B and 42 go to the area, every other burst to memory
-abbrev pub inArea : Kind → Bool
-inArea Unknown = false
-inArea (Plain c) = false
-inArea (ReadRegister r) = false
-inArea ReadAny = false
-inArea ReadMode = false
-inArea ReadIdentity = false
-inArea (WriteRegister r) = false
-inArea WriteMode = false
-inArea (ReadMemory s) = false
-inArea (WriteMemory s) = false
-inArea ReadArea = true
-inArea WriteArea = true
+-- 42 goes to the area, every other burst to memory
+abbrev pub intoArea : Kind → Bool
+intoArea Unknown = false
+intoArea (Plain c) = false
+intoArea (Read s) = false
+intoArea (Write (Into.Register r)) = false
+intoArea (Write Into.Mode) = false
+intoArea (Write (Into.Memory r)) = false
+intoArea (Write Into.Area) = true
 
 -- byte i of a write lies at a protected place
-unfoldable pub protectedAt : Setting → Kind → ℕ → Bytes → Bool
-protectedAt s k address i =
-    cond (inArea k) (areaProtectedOf s (areaPlace (s .part) address i)) (protectedOf s (writePlace s address i))
+unfoldable pub protectedAt : Aim → Bytes → Bool
+protectedAt a i =
+    let s = a .setting in
+    cond (intoArea (a .kind)) (areaProtectedOf s (areaPlace (s .part) (a .address) i)) (protectedOf s (writePlace s (a .address) i))
 
 -- byte i of a write, stored
-unfoldable pub putAt : Setting → Kind → ℕ → Bytes → ℕ → Lent → Lent
-putAt s k address i b l =
-    cond (inArea k)
-    (record { memory = l .memory; area = set (l .area) (areaPlace (s .part) address i) b })
-    (record { memory = set (l .memory) (writePlace s address i) b; area = l .area })
+unfoldable pub putAt : Aim → Bytes → ℕ → Lent → Lent
+putAt a i b l =
+    let s = a .setting in
+    cond (intoArea (a .kind))
+    (record { memory = l .memory; area = set (l .area) (areaPlace (s .part) (a .address) i) b })
+    (record { memory = set (l .memory) (writePlace s (a .address) i) b; area = l .area })
 
--- what the bytes so far leave: memory and area, the eight places of a register write, and whether one byte of a burst was not protected
-pub record Taken : Type 0 where
-  pub lent : Lent
-  pub value : List ℕ
-  pub any : Bool
+-- HOW MANY of the first m bytes of a write lie at protected places. It follows from the places alone, whatever the bytes are.
+abbrev pub shutAmong : Aim → Bytes → Bytes
+shutAmong a m = bytes (howMany (λ i. protectedAt a (bytes i)) (m .0))
 
-abbrev pub nothingTaken : Lent → Taken
-nothingTaken l = record { lent = l; value = replicate 8 0; any = false }
+-- all of them do
+unfoldable pub allShut : Aim → Bytes → Bool
+allShut a m = eqb (shutAmong a m .0) (m .0)
 
-abbrev pub stored : Setting → Kind → ℕ → Bytes → ℕ → Taken → Taken
-stored s k address i b t =
-    cond (protectedAt s k address i) t (record { lent = putAt s k address i b (t .lent); value = t .value; any = true })
+abbrev pub stored : Aim → Bytes → ℕ → Lent → Lent
+stored a i b l = cond (protectedAt a i) l (putAt a i b l)
 
--- one whole byte of a command's data
-abbrev pub takeByte : Body → Setting → Kind → ℕ → Bytes → ℕ → Taken → Taken
-takeByte Nothing s k address i b t = t
-takeByte (FixedRead m) s k address i b t = t
-takeByte AnyRead s k address i b t = t
-takeByte (FixedWrite m) s k address i b t = record { lent = t .lent; value = set (t .value) (i .0) b; any = t .any }
-takeByte AnyWrite s k address i b t = stored s k address i b t
+-- one whole data byte: what it leaves in memory and area, and in the eight places of a register write
+abbrev pub storeByte : Body → Aim → Bytes → ℕ → Lent → Lent
+storeByte Nothing a i b l = l
+storeByte (FixedRead m) a i b l = l
+storeByte AnyRead a i b l = l
+storeByte (FixedWrite m) a i b l = l
+storeByte AnyWrite a i b l = stored a i b l
+
+abbrev pub valueByte : Body → Bytes → ℕ → List ℕ → List ℕ
+valueByte Nothing i b v = v
+valueByte (FixedRead m) i b v = v
+valueByte AnyRead i b v = v
+valueByte (FixedWrite m) i b v = set v (i .0) b
+valueByte AnyWrite i b v = v
 
 -- all of them, in their order
-unfoldable pub takeAll : (Bytes → ℕ → Taken → Taken) → ℕ → List ℕ → Taken → Taken
+unfoldable pub takeAll : {S : Type 0} → (Bytes → ℕ → S → S) → ℕ → List ℕ → S → S
 takeAll f i [] t = t
 takeAll f i (b ∷ bs) t = takeAll f (i + 1) bs (f (bytes i) b t)

@@ -5,22 +5,26 @@ use mathlib.Core.List.{List, [], _∷_, _++_}
 use lib.Dec.{eqb, ltb}
 use lib.ListN.{length, drop, replicate}
 use Rattle.units.specs.Units.{atMost, longest}
-use Rattle.parts.specs.declared.Part.{Part}
-use Rattle.parts.specs.declared.Part.the-variants.{M, P}
-use Rattle.parts.specs.Parts.{partOf, knownPart, offered, areaOf}
+use Rattle.basis.specs.Decisions.{firstOf, leadingTo}
+use Rattle.parts.specs.declared.Family.{Family}
+use Rattle.parts.specs.declared.Family.the-variants.{Mram, Psram}
+use Rattle.parts.specs.Parts.{partOf, familyOf, knownPart, offered, areaOf}
+use Rattle.commands.specs.declared.plans.Body.{Body}
+use Rattle.progress.specs.Progress.{nothingYet}
 use Rattle.counts.specs.declared.Counts.{Counts}
 use Rattle.counts.specs.Counts.{noCounts}
 use Rattle.record.specs.declared.Answer.{Answer}
 use Rattle.record.specs.declared.Answer.the-variants.{Done, Size, Sample, State}
 use Rattle.record.specs.declared.Device.{Device}
-use Rattle.record.specs.Devices.{settingOf}
+use Rattle.record.specs.declared.Setting.{Setting}
+use Rattle.record.specs.Devices.{settingOf, aimOf}
 use Rattle.record.specs.Answers.{isDone}
 use Rattle.record.specs.Changes.{settledOf, poweredOf}
 use Rattle.values.specs.States.{validOf}
 use Rattle.places.specs.Addresses.{memorySize}
 use Rattle.paper.specs.InForce.{wiresFor, bodyFor}
 use Rattle.paper.specs.Reading.{Parts, partsOf, many, countsIn, dataBytes}
-use Rattle.paper.specs.Storing.{Lent, nothingTaken, takeByte, takeAll}
+use Rattle.paper.specs.Storing.{Lent, storeByte, valueByte, takeAll}
 use Rattle.paper.specs.Driving.{drivenAt, along}
 use Rattle.paper.specs.Answers.{Facts, judge}
 
@@ -36,10 +40,9 @@ pub record World : Type 0 where
 -- 1: the part, n, and what is lent
 unfoldable pub sizedFor : Device → Lent → Bool
 sizedFor d l =
-    knownPart (d .part)
-    && (offered (partOf (d .part)) (d .n)
-    && (eqb (length (l .memory)) (memorySize (d .n) .0)
-    && eqb (length (l .area)) (areaOf (partOf (d .part)) .0)))
+    let m = d .make in
+    let p = partOf (m .part) in
+    knownPart (m .part) && (offered p (m .n) && (eqb (length (l .memory)) (memorySize (m .n) .0) && eqb (length (l .area)) (areaOf p .0)))
 
 -- and of a transaction its clocks and its output
 unfoldable pub roomFor : List ℕ → List ℕ → Bool
@@ -51,17 +54,20 @@ sampled [] = true
 sampled (x ∷ xs) = ltb x 16 && sampled xs
 
 -- ---- what was read, and what it comes to
-unfoldable pub factsOf : Device → Lent → Parts → Facts
-factsOf d l p =
-    let s = settingOf d in
-    record {
-      kind = p .kind;
-      address = p .address;
-      counts = countsIn p;
-      taken =
-          takeAll (takeByte (bodyFor s (p .kind) (p .address)) s (p .kind) (p .address)) 0 (dataBytes (wiresFor s (p .kind)) (p .dataPart))
-          (nothingTaken l);
-    }
+-- the whole data bytes
+unfoldable pub sentBytes : Setting → Parts → List ℕ
+sentBytes s p = dataBytes (wiresFor s (p .kind)) (p .dataPart)
+
+abbrev pub bodyIn : Setting → Parts → Body
+bodyIn s p = bodyFor s (p .kind) (p .address)
+
+unfoldable pub factsOf : Setting → Parts → Facts
+factsOf s p =
+    record { kind = p .kind; address = p .address; tally = record { counts = countsIn p; value = takeAll (valueByte (bodyIn s p)) 0 (sentBytes s p) (nothingYet .value) } }
+
+-- memory and area with the whole data bytes of a burst in them
+unfoldable pub storedBy : Setting → Parts → Lent → Lent
+storedBy s p l = takeAll (storeByte (bodyIn s p) (aimOf s (p .kind) (p .address))) 0 (sentBytes s p) l
 
 abbrev pub undriven : List ℕ → List ℕ
 undriven xs = replicate (length xs) 0
@@ -74,7 +80,7 @@ around p o = undriven (p .commandPart) ++ (undriven (p .addressPart) ++ (undrive
 unfoldable pub outputOf : Device → Lent → Parts → Answer → List ℕ
 outputOf d l p v =
     around p
-    (cond (isDone v) (along (drivenAt (bodyFor (settingOf d) (p .kind) (p .address)) d (p .kind) (p .address) l) 0 (p .dataPart)) (undriven (p .dataPart)))
+    (cond (isDone v) (along (drivenAt (bodyIn (settingOf d) p) d (p .kind) (p .address) l) 0 (p .dataPart)) (undriven (p .dataPart)))
 
 -- the output buffer after the clocks: what they drive, and the room past them as it was
 unfoldable pub over : List ℕ → List ℕ → List ℕ
@@ -83,41 +89,57 @@ over xs out = xs ++ drop (length xs) out
 -- A TRANSACTION that has passed the checks
 unfoldable pub clockedOf : Device → Lent → List ℕ → List ℕ → World
 clockedOf d l xs out =
-    let p = partsOf (settingOf d) xs in
-    let f = factsOf d l p in
+    let s = settingOf d in
+    let p = partsOf s xs in
+    let f = factsOf s p in
     let v = judge d f in
     record {
       answer = v;
-      counts = f .counts;
-      device = settledOf (f .kind) (f .taken .value) v d;
-      lent = cond (isDone v) (f .taken .lent) l;
+      counts = f .tally .counts;
+      device = settledOf (f .kind) (f .tally .value) v d;
+      lent = cond (isDone v) (storedBy s p l) l;
       output = over (outputOf d l p v) out;
     }
 
 -- a refusal leaves everything as it was
-abbrev pub refusal : Answer → Device → Lent → List ℕ → World
-refusal v d l out = record { answer = v; counts = noCounts; device = d; lent = l; output = out }
+abbrev pub refusal : Device → Lent → List ℕ → Answer → World
+refusal d l out v = record { answer = v; counts = noCounts; device = d; lent = l; output = out }
+
+-- THE CHECKS before a call, in their order: the first that fails refuses it, and where all are passed it is made
+abbrev pub guarded : List (Bool × Answer) → (Answer → World) → World → World
+guarded cs refuse w = firstOf w (leadingTo refuse cs)
+
+abbrev pub transactChecks : Device → Lent → List ℕ → List ℕ → List (Bool × Answer)
+transactChecks d l xs out =
+    (not (sizedFor d l && roomFor xs out), Size)
+    ∷ (not (sampled xs), Sample)
+    ∷ (not (validOf d), State)
+    ∷ []
+
+abbrev pub powerChecks : Device → Lent → List (Bool × Answer)
+powerChecks d l =
+    (not (sizedFor d l), Size)
+    ∷ (not (validOf d), State)
+    ∷ []
 
 -- TRANSACT
 unfoldable pub transactOf : Device → Lent → List ℕ → List ℕ → World
-transactOf d l xs out =
-    cond (not (sizedFor d l && roomFor xs out)) (refusal Size d l out)
-    (cond (not (sampled xs)) (refusal Sample d l out)
-    (cond (not (validOf d)) (refusal State d l out) (clockedOf d l xs out)))
+transactOf d l xs out = guarded (transactChecks d l xs out) (refusal d l out) (clockedOf d l xs out)
 
--- POWER CYCLE: what part M stores outlives it, what part P stores does not
-abbrev pub memoryAfter : Part → List ℕ → List ℕ
-memoryAfter M m = m
-memoryAfter P m = replicate (length m) 0
+-- POWER CYCLE: what the MRAM stores outlives it, what the PSRAM stores does not
+abbrev pub memoryAfter : Family → List ℕ → List ℕ
+memoryAfter Mram m = m
+memoryAfter Psram m = replicate (length m) 0
 
-unfoldable pub powerOf : Device → Lent → World
-powerOf d l =
-    cond (not (sizedFor d l)) (refusal Size d l [])
-    (cond (not (validOf d)) (refusal State d l [])
-    (record {
+abbrev pub poweredUp : Device → Lent → World
+poweredUp d l =
+    record {
       answer = Done;
       counts = noCounts;
       device = poweredOf d;
-      lent = record { memory = memoryAfter (partOf (d .part)) (l .memory); area = l .area };
+      lent = record { memory = memoryAfter (familyOf (partOf (d .make .part))) (l .memory); area = l .area };
       output = [];
-    }))
+    }
+
+unfoldable pub powerOf : Device → Lent → World
+powerOf d l = guarded (powerChecks d l) (refusal d l []) (poweredUp d l)

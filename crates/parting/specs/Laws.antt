@@ -14,27 +14,26 @@ use borrow.Rule.Slice.PartMut.{midOf, putMid, mid-len}
 use Rattle.units.specs.declared.Clocks.{Clocks}
 use Rattle.units.specs.Units.{clocks}
 use Rattle.record.specs.declared.Device.{Device}
-use Rattle.record.specs.Devices.{settingOf}
+use Rattle.record.specs.declared.Outcome.{Outcome}
 use Rattle.counts.specs.Counts.{total}
-use Rattle.bursts.specs.Lends.{lends}
-use Rattle.feeding.specs.Views.{runAs}
+use Rattle.progress.specs.declared.Progress.{Progress}
+use Rattle.progress.specs.Progress.{beginOf}
+use Rattle.words.specs.Words.{lends, Run, runAs, worldOf}
 use Rattle.paper.specs.Transaction.{over, clockedOf}
-use Rattle.clocking.specs.declared.Progress.{Progress}
-use Rattle.clocking.specs.Machine.{beginOf, Run, stepOf, runOf, outsOf}
-use Rattle.judging.specs.declared.Outcome.{Outcome}
+use Rattle.clocking.specs.Machine.{termsOf, stepOf, runOf, outsOf}
 use Rattle.judging.specs.Finish.{outcomeOf, finishOf}
 use Rattle.bridge.specs.Bridge.{bridge}
 use Rattle.running.specs.Fed.{Feedable, Fed}
 use Rattle.running.specs.Laws.{run-append, outs-append, outs-length, step-one}
-use Rattle.parting.specs.Parting.{worldOf, reachOf, placeOf, upcoming, Passed, Advancing, Advanced, Going}
+use Rattle.parting.specs.Parting.{reachOf, placeOf, upcoming, Passed, Advancing, Advanced, Going}
 
 -- every clock of a run is counted
 pub run-clocks : (d : Device) (r : Run) (xs : List ℕ) → placeOf (runOf d r xs) ≡ placeOf r + length xs
 unfolding runOf
 run-clocks d r [] = rw add-zero
 run-clocks d r (x ∷ xs) =
-    let r′ = stepOf (settingOf d) (d .volatile .latch) r x in
-    let e = step-one (settingOf d) (d .volatile .latch) r x in
+    let r′ = stepOf (termsOf d) r x in
+    let e = step-one (termsOf d) r x in
     run-clocks d r′ xs ∙ omega arith
 
 -- ---- the end of a part
@@ -82,7 +81,7 @@ put-back {d} {r} {r′} {xs} {out} {y} {c} h g f =
 
 -- ---- the same by the places that the code has
 module _
-    {d : Device} {p : Progress} {xs out : List ℕ} (v : Advancing d p xs out) {from : Clocks} {e : ℕ} (c : Clocks) (a : from ≡ total (p .counts))
+    {d : Device} {p : Progress} {xs out : List ℕ} (v : Advancing d p xs out) {from : Clocks} {e : ℕ} (c : Clocks) (a : from ≡ total (p .tally .counts))
     (b : e ≡ reachOf from c (length xs)) where
   pub within : (from .0 ≤ e) × (e ≤ length xs)
   within = rw b (reach-within from c (length xs) (rw a (v .seen)))
@@ -149,7 +148,7 @@ module _ {d : Device} {r₀ r : Run} {xs out o : List ℕ} (g : Going d r₀ xs 
 pub go-advancing : {d : Device} {r₀ : Run} {p : Progress} {m a xs out o : List ℕ} → Passed d xs out → Going d r₀ xs out (runAs p m a) o → Advancing d p xs o
 unfolding over
 go-advancing {d} {r₀} {p} {m} {a} {xs} {out} {o} h g =
-    let i = total (p .counts) .0 in
+    let i = total (p .tally .counts) .0 in
     let ys = outsOf d r₀ (take i xs) in
     let l : length ys ≡ i = outs-length d r₀ (take i xs) ∙ length-take-le i xs (g .seen) in
     let e : length o ≡ length ys + length (drop (length ys) out) = ap length (g .driven) ∙ length-append ys (drop (length ys) out) in

@@ -13,16 +13,11 @@ use Rattle.commands.specs.declared.plans.Body.{Body}
 use Rattle.commands.specs.declared.plans.Body.the-variants.{Nothing, FixedRead, AnyRead, FixedWrite, AnyWrite}
 use Rattle.counts.specs.Counts.{total}
 use Rattle.record.specs.declared.Device.{Device}
-use Rattle.bursts.specs.Lends.{lends}
 use Rattle.paper.specs.Reading.{first}
-use Rattle.paper.specs.Transaction.{World, over}
-use Rattle.clocking.specs.declared.Progress.{Progress}
-use Rattle.clocking.specs.Machine.{Run, runOf, outsOf}
-use Rattle.judging.specs.declared.Outcome.{Outcome}
-
--- what a call answers and leaves, as the paper's definition has it
-abbrev pub worldOf : Outcome → List ℕ → List ℕ → List ℕ → World
-worldOf o memory area out = record { answer = o .answer; counts = o .counts; device = o .device; lent = lends memory area; output = out }
+use Rattle.paper.specs.Transaction.{over}
+use Rattle.progress.specs.declared.Progress.{Progress}
+use Rattle.words.specs.Words.{Run}
+use Rattle.clocking.specs.Machine.{runOf, outsOf}
 
 -- so many clocks after a place, or the end of n samples
 unfoldable pub reachOf : Clocks → Clocks → ℕ → ℕ
@@ -41,18 +36,18 @@ dataOf AnyWrite w all = all
 
 -- the place that a transaction has come to: as many clocks as it has counted
 abbrev pub placeOf : Run → ℕ
-placeOf r = total (r .progress .counts) .0
+placeOf r = total (r .progress .tally .counts) .0
 
 -- what the checks before a transaction leave: a chip whose memory an address reaches, few enough clocks, and room for what they drive
 pub record Passed (d : Device) (xs out : List ℕ) : Type 0 where
-  pub reach : d .n ≤ 24
+  pub reach : d .make .n ≤ 24
   pub few : length xs ≤ 65535
   pub room : length xs ≤ length out
 
 -- and a place among the samples
 pub record Advancing (d : Device) (p : Progress) (xs out : List ℕ) : Type 0 where
   pub passed : Passed d xs out
-  pub seen : total (p .counts) .0 ≤ length xs
+  pub seen : total (p .tally .counts) .0 ≤ length xs
 
 -- the next clocks from a place on
 abbrev pub upcoming : ℕ → Clocks → List ℕ → List ℕ

@@ -2,15 +2,14 @@
 // data phase is the part in the middle.
 ghost use mathlib.Core.Path.{_≡_};
 ghost use Prim.Native.Nat.{_≤_};
-ghost use Rattle.bursts.specs.Lends.{lends};
-ghost use Rattle.clocking.specs.Machine.{beginOf};
-ghost use Rattle.feeding.specs.Views.{runAs};
+ghost use Rattle.progress.specs.Progress.{beginOf};
+ghost use Rattle.words.specs.Words.{lends, runAs, worldOf};
 ghost use Rattle.paper.specs.Transaction.{clockedOf};
-ghost use Rattle.parting.specs.Parting.{reachOf, fixedOf, dataOf, Passed, Advancing, Advanced, Going, worldOf};
-use clocking::Progress;
+ghost use Rattle.parting.specs.Parting.{reachOf, fixedOf, dataOf, Passed, Advancing, Advanced, Going};
 use commands::plans::Body;
-use judging::Outcome;
+use progress::Progress;
 use record::Device;
+use record::Outcome;
 use units::Bytes;
 use units::Clocks;
 use units::Wires;
@@ -65,7 +64,8 @@ fn advance(
     requires { ⌜ Advancing d p (now samples) (now output) ⌝ }
     ensures { λ r. ⌜ Advanced d (runAs p (now (memory .entry)) (now (area .entry))) (now (samples .entry)) (now (output .entry)) c (runAs r (now (memory .exit)) (now (area .exit))) (now (output .exit)) ⌝ }
 {
-    let counts = p.counts;
+    let tally = p.tally;
+    let counts = tally.counts;
     let from = counts.total();
     let a = from.0;
     let e = reach(from, c, samples.len());
@@ -84,7 +84,7 @@ fn before_data(
     ensures { λ r. ⌜ Going d (runAs beginOf (now (memory .entry)) (now (area .entry))) (now (samples .entry)) (now (output .entry)) (runAs r (now (memory .exit)) (now (area .exit))) (now (output .exit)) ⌝ }
 {
     let s = d.setting();
-    let p = clocking::begin();
+    let p = Progress::begin();
     let command = phases::command_clocks(s);
     let q = advance(d, p, memory, area, samples, output, command);
     let k = q.kind;

@@ -1,24 +1,36 @@
 -- The parts and their limits. Document 01, "Commands of part M" (memory and area), "Commands of part P" (n as for M), "Answer numbers" row 1
 -- (the area of P is empty), "Bench tape" (the numbers of the parts).
 use Prim.Native.Nat.{ℕ}
-use mathlib.Core.Bool.{Bool, cond, _||_, _&&_}
-use lib.Dec.{eqb, leb}
+use mathlib.Core.Bool.{Bool, _&&_}
+use mathlib.Core.List.{List, [], _∷_}
+use lib.Dec.{leb}
+use Rattle.basis.specs.Rows.{look, keys, among}
 use Rattle.units.specs.declared.Bytes.{Bytes}
 use Rattle.units.specs.Units.{bytes}
+use Rattle.parts.specs.declared.Family.{Family}
+use Rattle.parts.specs.declared.Family.the-variants.{Mram, Psram}
 use Rattle.parts.specs.declared.Part.{Part}
 use Rattle.parts.specs.declared.Part.the-variants.{M, P}
+
+-- Rules go by the family, limits by the part. What follows below and is not a limit (commands, latch, protection, groups, reset, power) asks the family.
+abbrev pub familyOf : Part → Family
+familyOf M = Mram
+familyOf P = Psram
 
 -- the numbers of the parts
 abbrev pub partNumber : Part → ℕ
 partNumber M = 1
 partNumber P = 2
 
+abbrev pub parts : List (ℕ × Part)
+parts = (partNumber M, M) ∷ (partNumber P, P) ∷ []
+
 -- the part of a number; row 1 refuses a number that stands for none before it comes to more
 abbrev pub partOf : ℕ → Part
-partOf k = cond (eqb k (partNumber P)) P M
+partOf k = look M parts k
 
 abbrev pub knownPart : ℕ → Bool
-knownPart k = eqb k (partNumber M) || eqb k (partNumber P)
+knownPart k = among k (keys parts)
 
 -- a memory has 2^n bytes, n from the least to the most
 abbrev pub leastOf : Part → ℕ

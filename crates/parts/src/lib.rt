@@ -1,15 +1,15 @@
 // What tells one part from another: the parts and their limits, and the lengths and shares that their
 // registers choose.
 ghost use mathlib.Core.Path.{_≡_};
-ghost use Rattle.parts.specs.Parts.{partOf, knownPart, leastOf, mostOf, offered, areaOf, wrapCodes};
+ghost use Rattle.parts.specs.Parts.{partOf, knownPart, familyOf, leastOf, mostOf, offered, areaOf, sectionOf, wrapCodes};
 ghost use Rattle.parts.specs.Lengths.{wrapLength, groupLength, shareOf};
 use units::Bytes;
 
 // Part M, the serial MRAM. Its memories of 2^17, 2^19, 2^20 and 2^21 bytes are sold; the smaller ones are
 // the bench's.
-pub struct Mram;
+pub struct PartM;
 
-impl Mram {
+impl PartM {
     pub const NUMBER: u8 = 1;
 
     pub const LEAST: u8 = 10;
@@ -28,9 +28,9 @@ impl Mram {
 }
 
 // Part P, the serial PSRAM. It has no augmented area.
-pub struct Psram;
+pub struct PartP;
 
-impl Psram {
+impl PartP {
     pub const NUMBER: u8 = 2;
 
     pub const LEAST: u8 = 10;
@@ -39,11 +39,25 @@ impl Psram {
 
     pub const AREA: usize = 0;
 
+    pub const SECTION: usize = 0;
+
     pub const WRAP_CODES: u8 = 0;
 
     pub const FRESH_MR0: u8 = 0x60;
 }
 
+// The largest memory and the largest area of all parts: room for any chip.
+pub const LARGEST_MEMORY: usize = 2097152;
+
+pub const LARGEST_AREA: usize = 256;
+
+// Rules go by the family: commands, latch, protection, groups, reset and power.
+pub enum Family {
+    Mram,
+    Psram,
+}
+
+// Limits go by the part: n, the area and its sections, the codes of groups, the register map, fresh registers.
 pub enum Part {
     M,
     P,
@@ -55,7 +69,8 @@ impl Part {
         ensures { λ r. ⌜ r ≡ partOf number ⌝ }
     {
         match number {
-            Psram::NUMBER => Part::P,
+            PartM::NUMBER => Part::M,
+            PartP::NUMBER => Part::P,
             _ => Part::M,
         }
     }
@@ -65,9 +80,18 @@ impl Part {
         ensures { λ r. ⌜ r ≡ knownPart number ⌝ }
     {
         match number {
-            Mram::NUMBER => true,
-            Psram::NUMBER => true,
+            PartM::NUMBER => true,
+            PartP::NUMBER => true,
             _ => false,
+        }
+    }
+
+    pub fn family(self) -> Family
+        ensures { λ r. ⌜ r ≡ familyOf self ⌝ }
+    {
+        match self {
+            Part::M => Family::Mram,
+            Part::P => Family::Psram,
         }
     }
 
@@ -76,8 +100,8 @@ impl Part {
         ensures { λ r. ⌜ r ≡ leastOf self ⌝ }
     {
         match self {
-            Part::M => Mram::LEAST,
-            Part::P => Psram::LEAST,
+            Part::M => PartM::LEAST,
+            Part::P => PartP::LEAST,
         }
     }
 
@@ -85,8 +109,8 @@ impl Part {
         ensures { λ r. ⌜ r ≡ mostOf self ⌝ }
     {
         match self {
-            Part::M => Mram::MOST,
-            Part::P => Psram::MOST,
+            Part::M => PartM::MOST,
+            Part::P => PartP::MOST,
         }
     }
 
@@ -95,8 +119,8 @@ impl Part {
         ensures { λ r. ⌜ r ≡ wrapCodes self ⌝ }
     {
         match self {
-            Part::M => Mram::WRAP_CODES,
-            Part::P => Psram::WRAP_CODES,
+            Part::M => PartM::WRAP_CODES,
+            Part::P => PartP::WRAP_CODES,
         }
     }
 
@@ -105,30 +129,40 @@ impl Part {
         ensures { λ r. ⌜ r ≡ areaOf self ⌝ }
     {
         match self {
-            Part::M => Bytes(Mram::AREA),
-            Part::P => Bytes(Psram::AREA),
+            Part::M => Bytes(PartM::AREA),
+            Part::P => Bytes(PartP::AREA),
+        }
+    }
+
+    // The bytes of each of its eight sections.
+    pub fn section(self) -> Bytes
+        ensures { λ r. ⌜ r ≡ sectionOf self ⌝ }
+    {
+        match self {
+            Part::M => Bytes(PartM::SECTION),
+            Part::P => Bytes(PartP::SECTION),
         }
     }
 }
 
-// Bytes of an aligned group of part M, by the code in configuration 3. The codes that a record cannot
+// Bytes of an aligned group of the MRAM, by the code in configuration 3. The codes that a record cannot
 // have go on in the same way.
 const WRAPS: [usize; 8] = [16, 32, 64, 128, 256, 512, 1024, 2048];
 
-// Bytes of an aligned group of part P, by the code in the mode register.
+// Bytes of an aligned group of the PSRAM, by the code in the mode register.
 const GROUPS: [usize; 4] = [16, 32, 64, 512];
 
 // Protected parts of memory out of 64, by the code in the status register.
 const SHARES: [usize; 8] = [0, 1, 2, 4, 8, 16, 32, 64];
 
-// The group inside which memory reads of part M wrap, by configuration 3.
+// The group inside which memory reads of the MRAM wrap, by configuration 3.
 pub fn wrap_length(cr3: u8) -> Bytes
     ensures { λ r. ⌜ r ≡ wrapLength cr3 ⌝ }
 {
     Bytes(WRAPS[(cr3 % 8) as usize])
 }
 
-// The group inside which part P wraps, by the mode register.
+// The group inside which the PSRAM wraps, by the mode register.
 pub fn group_length(mr0: u8) -> Bytes
     ensures { λ r. ⌜ r ≡ groupLength mr0 ⌝ }
 {

@@ -35,16 +35,8 @@ fn is_waking(k: Kind) -> bool
             Control::Reset => false,
             Control::Toggle => false,
         },
-        Kind::ReadRegister(_) => false,
-        Kind::ReadAny => false,
-        Kind::ReadMode => false,
-        Kind::ReadIdentity => false,
-        Kind::WriteRegister(_) => false,
-        Kind::WriteMode => false,
-        Kind::ReadMemory(_) => false,
-        Kind::WriteMemory(_) => false,
-        Kind::ReadArea => false,
-        Kind::WriteArea => false,
+        Kind::Read(_) => false,
+        Kind::Write(_) => false,
     }
 }
 
@@ -55,16 +47,8 @@ pub fn is_unknown(k: Kind) -> bool
     match k {
         Kind::Unknown => true,
         Kind::Plain(_) => false,
-        Kind::ReadRegister(_) => false,
-        Kind::ReadAny => false,
-        Kind::ReadMode => false,
-        Kind::ReadIdentity => false,
-        Kind::WriteRegister(_) => false,
-        Kind::WriteMode => false,
-        Kind::ReadMemory(_) => false,
-        Kind::WriteMemory(_) => false,
-        Kind::ReadArea => false,
-        Kind::WriteArea => false,
+        Kind::Read(_) => false,
+        Kind::Write(_) => false,
     }
 }
 

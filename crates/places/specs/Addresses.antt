@@ -1,13 +1,13 @@
 -- Which addresses are allowed, row 7 of document 01's "Answer numbers". The rules stand in "Commands of part M" (memory, area, the map of 65) and
--- "Commands of part P": part M refuses an address that its memory has not, part P drops the bits that are too many.
+-- "Commands of part P": the MRAM refuses an address that its memory has not, the PSRAM drops the bits that are too many.
 use Prim.Native.Nat.{ℕ, _%_, _^_}
 use mathlib.Core.Bool.{Bool, true, false}
 use lib.Dec.{eqb, ltb}
 use Rattle.units.specs.declared.Bytes.{Bytes}
 use Rattle.units.specs.Units.{bytes}
-use Rattle.parts.specs.declared.Part.{Part}
-use Rattle.parts.specs.declared.Part.the-variants.{M, P}
-use Rattle.parts.specs.Parts.{areaOf}
+use Rattle.parts.specs.declared.Family.{Family}
+use Rattle.parts.specs.declared.Family.the-variants.{Mram, Psram}
+use Rattle.parts.specs.Parts.{familyOf, areaOf}
 use Rattle.commands.specs.declared.registers.Mapped.{Mapped}
 use Rattle.commands.specs.declared.registers.Mapped.the-variants.{At, Nowhere}
 use Rattle.commands.specs.declared.plans.Address.{Address}
@@ -23,13 +23,13 @@ abbrev pub isMapped : Mapped → Bool
 isMapped (At r) = true
 isMapped Nowhere = false
 
-abbrev pub memoryAllowed : Part → ℕ → ℕ → Bool
-memoryAllowed M n address = ltb address (memorySize n .0)
-memoryAllowed P n address = true
+abbrev pub memoryAllowed : Family → ℕ → ℕ → Bool
+memoryAllowed Mram n address = ltb address (memorySize n .0)
+memoryAllowed Psram n address = true
 
 abbrev pub allowedOf : Setting → Address → ℕ → Bool
 allowedOf s Absent address = true
-allowedOf s InMemory address = memoryAllowed (s .part) (s .n) address
+allowedOf s InMemory address = memoryAllowed (familyOf (s .part)) (s .n) address
 allowedOf s InArea address = ltb address (areaOf (s .part) .0)
 allowedOf s InMap address = isMapped (mappedOf (s .part) address)
 allowedOf s LowNibbleZero address = eqb (address % 16) 0

@@ -9,8 +9,11 @@ use lib.Dec.{lit<, lit≤, eqb}
 use lib.ListN.{getD}
 use lib.Pow.{pow-pos, pow-mono}
 use Rattle.units.specs.declared.Bytes.{Bytes}
+use Rattle.parts.specs.declared.Family.{Family}
+use Rattle.parts.specs.declared.Family.the-variants.{Mram, Psram}
 use Rattle.parts.specs.declared.Part.{Part}
 use Rattle.parts.specs.declared.Part.the-variants.{M, P}
+use Rattle.parts.specs.Parts.{familyOf, areaOf, sectionOf}
 use Rattle.parts.specs.Lengths.{groups, wrapLength, shareAt, shareOf}
 use Rattle.record.specs.declared.Setting.{Setting}
 use Rattle.places.specs.Addresses.{memorySize}
@@ -67,16 +70,25 @@ wrap-pos n cr3 = by (eqb (cr3 / 16 % 2) 1)
 
 pub read-span-pos : (s : Setting) → 0 < readSpan s .0
 unfolding readSpan
-read-span-pos s = by (s .part)
+read-span-pos s = by (familyOf (s .part))
   where
-    by : (p : Part) → 0 < readSpanFor p s .0
-    by M = wrap-pos (s .n) (s .registers .cr3)
-    by P = group-pos (s .registers .mr0) (s .toggle)
+    by : (f : Family) → 0 < readSpanFor f s .0
+    by Mram = wrap-pos (s .n) (s .registers .cr3)
+    by Psram = group-pos (s .registers .mr0) (s .toggle)
 
 pub write-span-pos : (s : Setting) → 0 < writeSpan s .0
 unfolding writeSpan
-write-span-pos s = by (s .part)
+write-span-pos s = by (familyOf (s .part))
   where
-    by : (p : Part) → 0 < writeSpanFor p s .0
-    by M = pow-pos (s .n)
-    by P = group-pos (s .registers .mr0) (s .toggle)
+    by : (f : Family) → 0 < writeSpanFor f s .0
+    by Mram = pow-pos (s .n)
+    by Psram = group-pos (s .registers .mr0) (s .toggle)
+
+-- ---- a part of the MRAM has an area, and sections in it
+pub record Sectioned (p : Part) : Type 0 where
+  pub area : 0 < areaOf p .0
+  pub section : 0 < sectionOf p .0
+
+pub sectioned : (p : Part) → familyOf p ≡ Mram → Sectioned p
+sectioned M e = record { area = lit< tt; section = lit< tt }
+sectioned P e = let z : _≡_ {A = ℕ} 0 1 = cc in absurd (omega arith)

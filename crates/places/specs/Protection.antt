@@ -1,13 +1,13 @@
 -- Which bytes are protected. Document 01, "Commands of part M": status bits 4 to 2 give the share of memory and bit 5 its end, and each section of the
--- area has a bit of its own. Memory goes by the status alone and the area by its sections alone. Part P protects nothing.
+-- area has a bit of its own. Memory goes by the status alone and the area by its sections alone. The PSRAM protects nothing.
 use Prim.Native.Nat.{ℕ, _*_, _/_, _%_, _^_, _-_}
 use mathlib.Core.Bool.{Bool, false, cond}
 use lib.Dec.{eqb, ltb, leb}
 use Rattle.units.specs.declared.Bytes.{Bytes}
 use Rattle.units.specs.Units.{bytes}
-use Rattle.parts.specs.declared.Part.{Part}
-use Rattle.parts.specs.declared.Part.the-variants.{M, P}
-use Rattle.parts.specs.Parts.{sectionOf}
+use Rattle.parts.specs.declared.Family.{Family}
+use Rattle.parts.specs.declared.Family.the-variants.{Mram, Psram}
+use Rattle.parts.specs.Parts.{familyOf, sectionOf}
 use Rattle.parts.specs.Lengths.{shareOf}
 use Rattle.record.specs.declared.Setting.{Setting}
 use Rattle.places.specs.Addresses.{memorySize}
@@ -25,17 +25,17 @@ shutMemory n status place =
 unfoldable pub sectionShut : ℕ → ℕ → Bool
 sectionShut protection section = eqb (protection / 2 ^ section % 2) 1
 
-abbrev pub protectedFor : Part → Setting → ℕ → Bool
-protectedFor M s place = shutMemory (s .n) (s .registers .status) place
-protectedFor P s place = false
+abbrev pub protectedFor : Family → Setting → ℕ → Bool
+protectedFor Mram s place = shutMemory (s .n) (s .registers .status) place
+protectedFor Psram s place = false
 
-abbrev pub areaProtectedFor : Part → Setting → ℕ → Bool
-areaProtectedFor M s place = sectionShut (s .registers .protection) (place / sectionOf M .0)
-areaProtectedFor P s place = false
+abbrev pub areaProtectedFor : Family → Setting → ℕ → Bool
+areaProtectedFor Mram s place = sectionShut (s .registers .protection) (place / sectionOf (s .part) .0)
+areaProtectedFor Psram s place = false
 
 -- the byte of memory, or of the area, at this place is protected
 unfoldable pub protectedOf : Setting → ℕ → Bool
-protectedOf s place = protectedFor (s .part) s place
+protectedOf s place = protectedFor (familyOf (s .part)) s place
 
 unfoldable pub areaProtectedOf : Setting → ℕ → Bool
-areaProtectedOf s place = areaProtectedFor (s .part) s place
+areaProtectedOf s place = areaProtectedFor (familyOf (s .part)) s place

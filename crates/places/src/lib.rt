@@ -13,7 +13,7 @@ ghost use Rattle.places.specs.Protection.{shutMemory, sectionShut, prote
 use commands::plans::Address;
 use commands::registers::Mapped;
 use commands::registers::register_at;
-use parts::Mram;
+use parts::Family;
 use parts::Part;
 use record::Setting;
 use units::Bytes;
@@ -37,13 +37,13 @@ fn is_mapped(m: Mapped) -> bool
 }
 
 // Whether a memory has this address, or drops the bits that it has too many.
-fn memory_allowed(part: Part, n: u8, address: u32) -> bool
+fn memory_allowed(family: Family, n: u8, address: u32) -> bool
     requires { ⌜ n ≤ 24 ⌝ }
-    ensures { λ r. ⌜ r ≡ memoryAllowed part n address ⌝ }
+    ensures { λ r. ⌜ r ≡ memoryAllowed family n address ⌝ }
 {
-    match part {
-        Part::M => (address as usize) < memory_size(n).0,
-        Part::P => true,
+    match family {
+        Family::Mram => (address as usize) < memory_size(n).0,
+        Family::Psram => true,
     }
 }
 
@@ -55,7 +55,7 @@ pub fn allowed(s: Setting, a: Address, address: u32) -> bool
     let part = s.part;
     match a {
         Address::Absent => true,
-        Address::InMemory => memory_allowed(part, s.n, address),
+        Address::InMemory => memory_allowed(part.family(), s.n, address),
         Address::InArea => (address as usize) < part.area().0,
         Address::InMap => is_mapped(register_at(part, address)),
         Address::LowNibbleZero => address % 16 == 0,
@@ -63,7 +63,7 @@ pub fn allowed(s: Setting, a: Address, address: u32) -> bool
     }
 }
 
-// Part P's group in force.
+// The PSRAM's group in force.
 fn group_in_force(mr0: u8, toggle: bool) -> Bytes
     ensures { λ r. ⌜ r ≡ groupInForce mr0 toggle ⌝ }
 {
@@ -73,7 +73,7 @@ fn group_in_force(mr0: u8, toggle: bool) -> Bytes
     parts::group_length(mr0)
 }
 
-// The group of part M's memory reads.
+// The group of the MRAM's memory reads.
 fn wrap_in_force(n: u8, cr3: u8) -> Bytes
     requires { ⌜ n ≤ 24 ⌝ }
     ensures { λ r. ⌜ r ≡ wrapInForce n cr3 ⌝ }
@@ -90,9 +90,9 @@ fn read_span(s: Setting) -> Bytes
     ensures { λ r. ⌜ r ≡ readSpan s ⌝ }
 {
     let part = s.part;
-    match part {
-        Part::M => wrap_in_force(s.n, s.registers.cr3),
-        Part::P => group_in_force(s.registers.mr0, s.toggle),
+    match part.family() {
+        Family::Mram => wrap_in_force(s.n, s.registers.cr3),
+        Family::Psram => group_in_force(s.registers.mr0, s.toggle),
     }
 }
 
@@ -102,9 +102,9 @@ fn write_span(s: Setting) -> Bytes
     ensures { λ r. ⌜ r ≡ writeSpan s ⌝ }
 {
     let part = s.part;
-    match part {
-        Part::M => memory_size(s.n),
-        Part::P => group_in_force(s.registers.mr0, s.toggle),
+    match part.family() {
+        Family::Mram => memory_size(s.n),
+        Family::Psram => group_in_force(s.registers.mr0, s.toggle),
     }
 }
 
@@ -141,12 +141,12 @@ pub fn area_place(part: Part, address: u32, i: Bytes) -> usize
     requires { ⌜ i .0 ≤ 65535 ⌝ }
     ensures { λ r. ⌜ r ≡ areaPlace part address i ⌝ }
 {
-    match part {
-        Part::M => {
+    match part.family() {
+        Family::Mram => {
             let size = part.area();
             place_in(size, size, address, i)
         }
-        Part::P => 0,
+        Family::Psram => 0,
     }
 }
 
@@ -180,9 +180,9 @@ pub fn protected(s: Setting, place: usize) -> bool
     ensures { λ r. ⌜ r ≡ protectedOf s place ⌝ }
 {
     let part = s.part;
-    match part {
-        Part::M => shut_memory(s.n, s.registers.status, place),
-        Part::P => false,
+    match part.family() {
+        Family::Mram => shut_memory(s.n, s.registers.status, place),
+        Family::Psram => false,
     }
 }
 
@@ -191,8 +191,8 @@ pub fn area_protected(s: Setting, place: usize) -> bool
     ensures { λ r. ⌜ r ≡ areaProtectedOf s place ⌝ }
 {
     let part = s.part;
-    match part {
-        Part::M => section_shut(s.registers.protection, place / Mram::SECTION),
-        Part::P => false,
+    match part.family() {
+        Family::Mram => section_shut(s.registers.protection, place / part.section().0),
+        Family::Psram => false,
     }
 }

@@ -1,10 +1,12 @@
 // The bench's lines for a tape: the header, one line a record, and the verdict.
 use columns::column;
-use judging::Outcome;
 use lines::five;
 use lines::last_line;
 use lines::verdict;
+use parts::LARGEST_AREA;
+use record::Outcome;
 use session::Session;
+use tape::LARGEST_MEMORY;
 use text::put;
 use text::put_all;
 use text::put_decimal;
@@ -83,8 +85,8 @@ fn run(tape: &[u8], memory: &mut [u8], area: &mut [u8], output: &mut [u8], text:
 
 // Plays a tape and prints its lines.
 pub fn play(tape: &[u8]) {
-    let mut memory = [0u8; 32768];
-    let mut area = [0u8; 256];
+    let mut memory = [0u8; LARGEST_MEMORY];
+    let mut area = [0u8; LARGEST_AREA];
     let mut output = io::buffer();
     let mut text = io::large_buffer();
     run(tape, &mut memory, &mut area, &mut output, &mut text);

@@ -11,12 +11,17 @@ use columns::stopped;
 use compact::call_columns;
 use compact::eight_column;
 use compact::state_columns;
-use judging::Outcome;
+use parts::LARGEST_MEMORY;
 use record::Device;
 use record::Identities;
+use record::Make;
+use record::Outcome;
 use record::Registers;
 use record::Volatile;
 use text::put;
+
+// Room for the output of any probe: a generated one lends a few bytes more than 65,536.
+const OUTPUT: usize = 131072;
 
 // The 64 bytes before a probe's samples, or that the input ends before them or within them.
 struct Head {
@@ -100,8 +105,10 @@ fn lengths_of(h: [u8; 64]) -> Lengths {
 // Any record at all: none of its bytes is looked at.
 fn device_of(h: [u8; 64]) -> Device {
     Device {
-        part: h[1],
-        n: h[2],
+        make: Make {
+            part: h[1],
+            n: h[2],
+        },
         registers: registers_of(h),
         volatile: volatile_of(h),
         identity: identities_of(h),
@@ -158,7 +165,7 @@ fn record_columns(text: &mut [u8], at: usize, d: Device) -> usize {
     let identity = i.device;
     let unique = i.unique;
     let serial = i.serial;
-    let a = column(text, at, d.part as u64);
+    let a = column(text, at, d.make.part as u64);
     let b = state_columns(text, a, d);
     let c = eight_column(text, b, identity);
     let e = eight_column(text, c, unique);
@@ -315,9 +322,8 @@ fn all(memory: &mut [u8], area: &mut [u8], samples: &mut [u8], output: &mut [u8]
     text::flush(text, s.place);
 }
 
-// Memory and output come by value, since an argument's length is known by its type. A generated probe lends a memory of
-// 2^21 bytes at most, and an output a few bytes longer than 65,536.
-fn play(mut memory: [u8; 2097152], mut output: [u8; 131072]) {
+// Memory and output come by value, since an argument's length is known by its type.
+fn play(mut memory: [u8; LARGEST_MEMORY], mut output: [u8; OUTPUT]) {
     let mut area = io::buffer();
     let mut samples = io::large_buffer();
     let mut text = io::large_buffer();
@@ -325,5 +331,5 @@ fn play(mut memory: [u8; 2097152], mut output: [u8; 131072]) {
 }
 
 fn main() {
-    play([0; 2097152], [0; 131072]);
+    play([0; LARGEST_MEMORY], [0; OUTPUT]);
 }

@@ -1,8 +1,12 @@
 -- The answers and the papers' numbers for them. Document 01, "Answer numbers, in order of checking".
 use Prim.Native.Nat.{ℕ}
-use mathlib.Core.Bool.{Bool, _&&_}
-use lib.Dec.{eqb, leb}
+use mathlib.Core.Bool.{Bool, true, false}
+use mathlib.Core.List.{List, [], _∷_, map}
+use lib.Dec.{eqb}
+use Rattle.basis.specs.Rows.{look}
 use Rattle.record.specs.declared.Answer.{Answer}
+use Rattle.record.specs.declared.Class.{Class}
+use Rattle.record.specs.declared.Class.the-variants as Of
 use Rattle.record.specs.declared.Answer.the-variants.{Done, Size, Sample, State, Short, Unknown, Asleep, Address, Latch, Protected, Reserved, Long, Unarmed}
 
 abbrev pub answerNumber : Answer → ℕ
@@ -20,20 +24,52 @@ answerNumber Reserved = 10
 answerNumber Long = 11
 answerNumber Unarmed = 12
 
--- 0: the command was done
-abbrev pub isDone : Answer → Bool
-isDone v = eqb (answerNumber v) 0
+-- What became of a call: done, 0; refused, and nothing was clocked; or declined by the device after the clocks. Document 01, the last column of the table
+abbrev pub classOf : Answer → Class
+classOf Done = Of.Done
+classOf Size = Of.Refused
+classOf Sample = Of.Refused
+classOf State = Of.Refused
+classOf Short = Of.Declined
+classOf Unknown = Of.Declined
+classOf Asleep = Of.Declined
+classOf Address = Of.Declined
+classOf Latch = Of.Declined
+classOf Protected = Of.Declined
+classOf Reserved = Of.Declined
+classOf Long = Of.Declined
+classOf Unarmed = Of.Declined
 
--- 1, 2 and 3: the call was refused, and nothing was clocked
-abbrev pub refusing : ℕ → Bool
-refusing v = leb 1 v && leb v 3
+abbrev pub doneIn : Class → Bool
+doneIn Of.Done = true
+doneIn Of.Refused = false
+doneIn Of.Declined = false
+
+abbrev pub refusedIn : Class → Bool
+refusedIn Of.Done = false
+refusedIn Of.Refused = true
+refusedIn Of.Declined = false
+
+abbrev pub declinedIn : Class → Bool
+declinedIn Of.Done = false
+declinedIn Of.Refused = false
+declinedIn Of.Declined = true
+
+abbrev pub isDone : Answer → Bool
+isDone v = doneIn (classOf v)
 
 abbrev pub refuses : Answer → Bool
-refuses v = refusing (answerNumber v)
+refuses v = refusedIn (classOf v)
 
--- 4 to 12: the device declined what was clocked
 abbrev pub declines : Answer → Bool
-declines v = leb 4 (answerNumber v) && leb (answerNumber v) 12
+declines v = declinedIn (classOf v)
+
+-- the same of a number, where that is all there is: C has the answer as a number
+abbrev pub answers : List Answer
+answers = Done ∷ Size ∷ Sample ∷ State ∷ Short ∷ Unknown ∷ Asleep ∷ Address ∷ Latch ∷ Protected ∷ Reserved ∷ Long ∷ Unarmed ∷ []
+
+abbrev pub refusing : ℕ → Bool
+refusing n = look false (map (λ v. (answerNumber v, refuses v)) answers) n
 
 -- 9: every byte of the burst was protected
 abbrev pub isProtected : Answer → Bool

@@ -4,34 +4,38 @@ use Prim.Native.Nat.{ℕ}
 use mathlib.Core.Bool.{Bool, true, false, cond, not}
 use mathlib.Core.List.{List}
 use lib.ListN.{getD}
-use Rattle.parts.specs.declared.Part.{Part}
-use Rattle.parts.specs.declared.Part.the-variants.{M, P}
-use Rattle.parts.specs.Parts.{partOf}
+use Rattle.parts.specs.declared.Family.{Family}
+use Rattle.parts.specs.declared.Family.the-variants.{Mram, Psram}
+use Rattle.parts.specs.Parts.{partOf, familyOf}
 use Rattle.opcodes.specs.declared.Control.{Control}
 use Rattle.opcodes.specs.declared.Control.the-variants.{NoOperation, WriteEnable, WriteDisable, ToOne, ToTwo, ToFour, Sleep, Wake, ResetEnable, Reset, Toggle}
 use Rattle.opcodes.specs.declared.Register.{Register}
 use Rattle.opcodes.specs.declared.Register.the-variants.{Status, AreaProtection, Configuration1, Configuration2, Configuration3, Configuration4, Configurations, Identity, Unique, Serial, ModeRegister, LongIdentity}
+use Rattle.opcodes.specs.declared.Target.{Target}
+use Rattle.opcodes.specs.declared.Target.the-variants as Into
 use Rattle.opcodes.specs.declared.Kind.{Kind}
 use Rattle.opcodes.specs.declared.Kind.the-variants as Kinds
 use Rattle.record.specs.declared.Answer.{Answer}
+use Rattle.record.specs.declared.Class.{Class}
+use Rattle.record.specs.declared.Class.the-variants as Of
 use Rattle.record.specs.declared.Registers.{Registers}
 use Rattle.record.specs.declared.Volatile.{Volatile}
 use Rattle.record.specs.declared.Identities.{Identities}
 use Rattle.record.specs.declared.Device.{Device}
-use Rattle.record.specs.Answers.{isDone, refuses, isProtected}
+use Rattle.record.specs.Answers.{classOf, isProtected}
 use Rattle.record.specs.Fresh.{freshModeRegister}
 use Rattle.record.specs.Latches.{afterBurst, afterRegister}
 use Rattle.record.specs.Shows.{withoutLatch}
 
 -- a record with other registers, other volatile state or another identity, and all else as it is
 abbrev pub withRegisters : Registers → Device → Device
-withRegisters r d = record { part = d .part; n = d .n; registers = r; volatile = d .volatile; identity = d .identity }
+withRegisters r d = record { make = d .make; registers = r; volatile = d .volatile; identity = d .identity }
 
 abbrev pub withVolatile : Volatile → Device → Device
-withVolatile v d = record { part = d .part; n = d .n; registers = d .registers; volatile = v; identity = d .identity }
+withVolatile v d = record { make = d .make; registers = d .registers; volatile = v; identity = d .identity }
 
 abbrev pub withIdentity : Identities → Device → Device
-withIdentity i d = record { part = d .part; n = d .n; registers = d .registers; volatile = d .volatile; identity = i }
+withIdentity i d = record { make = d .make; registers = d .registers; volatile = d .volatile; identity = i }
 
 -- ---- volatile state: the latch, the arming, the bus mode, sleep, the toggle
 abbrev pub volatileTo : ℕ → Bool → Bool → Bool → Bool → Device → Device
@@ -59,13 +63,13 @@ modeRegisterTo v d =
     let r = d .registers in
     withRegisters (record { status = r .status; protection = r .protection; cr1 = r .cr1; cr2 = r .cr2; cr3 = r .cr3; cr4 = r .cr4; mr0 = v }) d
 
--- Both parts go back to one wire. Part M also drops its latch; part P puts its mode register back and turns its toggle off. All else is kept.
-abbrev pub resetFor : Part → Device → Device
-resetFor M d = latchTo false (modeTo 1 d)
-resetFor P d = toggleTo false (modeRegisterTo freshModeRegister (modeTo 1 d))
+-- Both families go back to one wire. The MRAM also drops its latch; the PSRAM puts its mode register back and turns its toggle off. All else is kept.
+abbrev pub resetFor : Family → Device → Device
+resetFor Mram d = latchTo false (modeTo 1 d)
+resetFor Psram d = toggleTo false (modeRegisterTo freshModeRegister (modeTo 1 d))
 
 abbrev pub resetOf : Device → Device
-resetOf d = resetFor (partOf (d .part)) d
+resetOf d = resetFor (familyOf (partOf (d .make .part))) d
 
 -- a power cycle is a reset after which the chip is awake and no longer armed
 abbrev pub poweredOf : Device → Device
@@ -123,30 +127,34 @@ writtenTo ModeRegister v d = modeRegisterTo (getD v 0 0) d
 writtenTo LongIdentity v d = d
 
 -- ---- what a command done does to the record, and what each answer leaves
--- On part P both latch rules leave the latch down, where the state check wants it.
+-- On the PSRAM both latch rules leave the latch down, where the state check wants it.
 abbrev pub burstDone : Device → Device
 burstDone d = latchTo (afterBurst (d .registers .cr4) (d .volatile .latch)) d
 
 abbrev pub registerDone : Register → List ℕ → Device → Device
 registerDone r v d = latchTo (afterRegister (d .registers .cr4) (d .volatile .latch)) (writtenTo r v d)
 
+abbrev pub writeDone : Target → List ℕ → Device → Device
+writeDone (Into.Register r) v d = registerDone r v d
+writeDone Into.Mode v d = writtenTo ModeRegister v d
+writeDone (Into.Memory r) v d = burstDone d
+writeDone Into.Area v d = burstDone d
+
 abbrev pub effectOf : Kind → List ℕ → Device → Device
 effectOf Kinds.Unknown v d = d
 effectOf (Kinds.Plain c) v d = controlled c d
-effectOf (Kinds.ReadRegister r) v d = d
-effectOf Kinds.ReadAny v d = d
-effectOf Kinds.ReadMode v d = d
-effectOf Kinds.ReadIdentity v d = d
-effectOf (Kinds.WriteRegister r) v d = registerDone r v d
-effectOf Kinds.WriteMode v d = writtenTo ModeRegister v d
-effectOf (Kinds.ReadMemory s) v d = d
-effectOf (Kinds.WriteMemory s) v d = burstDone d
-effectOf Kinds.ReadArea v d = d
-effectOf Kinds.WriteArea v d = burstDone d
+effectOf (Kinds.Read s) v d = d
+effectOf (Kinds.Write t) v d = writeDone t v d
 
--- Answers 1 to 3 change nothing. Every other transaction disarms, but for 66, which arms when it is done. 9 moves the latch as the write would have.
+-- 9 moves the latch as the write would have, and no other answer of its class moves anything
+abbrev pub declinedTo : Answer → Device → Device
+declinedTo answer d = cond (isProtected answer) (burstDone d) d
+
+-- A refusal changes nothing. Every other transaction disarms, but for 66, which arms when it is done.
+abbrev pub settledIn : Class → Kind → List ℕ → Answer → Device → Device
+settledIn Of.Done k v answer d = effectOf k v (armTo false d)
+settledIn Of.Refused k v answer d = d
+settledIn Of.Declined k v answer d = declinedTo answer (armTo false d)
+
 abbrev pub settledOf : Kind → List ℕ → Answer → Device → Device
-settledOf k v answer d =
-    cond (refuses answer) d
-    (cond (isDone answer) (effectOf k v (armTo false d))
-    (cond (isProtected answer) (burstDone (armTo false d)) (armTo false d)))
+settledOf k v answer d = settledIn (classOf answer) k v answer d

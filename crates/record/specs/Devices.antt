@@ -5,8 +5,13 @@ use lib.Dec.{eqb}
 use Rattle.units.specs.declared.Wires.{Wires}
 use Rattle.units.specs.declared.Wires.the-variants.{One, Two, Four}
 use Rattle.parts.specs.Parts.{partOf}
+use Rattle.counts.specs.Counts.{noCounts}
+use Rattle.opcodes.specs.declared.Kind.{Kind}
+use Rattle.record.specs.declared.Answer.{Answer}
 use Rattle.record.specs.declared.Device.{Device}
 use Rattle.record.specs.declared.Setting.{Setting}
+use Rattle.record.specs.declared.Aim.{Aim}
+use Rattle.record.specs.declared.Outcome.{Outcome}
 
 -- the wires of a bus mode, 1, 2 or 4; the state check refuses any other number before it comes to more
 abbrev pub modeWires : ℕ → Wires
@@ -17,10 +22,18 @@ modeWires mode = cond (eqb mode 2) Two (cond (eqb mode 4) Four One)
 abbrev pub settingOf : Device → Setting
 settingOf d =
     record {
-      part = partOf (d .part);
+      part = partOf (d .make .part);
       wires = modeWires (d .volatile .mode);
-      n = d .n;
+      n = d .make .n;
       asleep = d .volatile .asleep;
       toggle = d .volatile .toggle;
       registers = d .registers;
     }
+
+-- what a command is aimed at
+abbrev pub aimOf : Setting → Kind → ℕ → Aim
+aimOf s k a = record { setting = s; kind = k; address = a }
+
+-- what a call without clocks answers
+abbrev pub unclockedOf : Answer → Device → Outcome
+unclockedOf v d = record { answer = v; counts = noCounts; device = d }

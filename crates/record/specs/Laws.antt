@@ -1,30 +1,66 @@
 -- Laws of the record.
 -- Assumes nothing.
-use mathlib.Core.Path.{_≡_, refl}
+use mathlib.Core.Path.{_≡_, refl, ap}
+use mathlib.Core.Bool.{Bool, true, false}
 use Prim.Native.Nat.{ℕ}
 use mathlib.Core.List.{List}
+use Rattle.basis.specs.Truth.{untrue}
+use Rattle.parts.specs.declared.Family.{Family}
+use Rattle.parts.specs.declared.Family.the-variants.{Mram, Psram}
+use Rattle.parts.specs.declared.Part.{Part}
 use Rattle.parts.specs.declared.Part.the-variants.{M, P}
-use Rattle.parts.specs.Parts.{partOf}
-use Rattle.record.specs.Fresh.{freshM, freshP}
-use Rattle.record.specs.Changes.{resetOf, poweredOf}
+use Rattle.parts.specs.Parts.{partOf, familyOf}
+use Rattle.opcodes.specs.declared.Kind.{Kind}
+use Rattle.record.specs.declared.Answer.{Answer}
+use Rattle.record.specs.declared.Answer.the-variants.{Done, Size, Sample, State, Short, Unknown, Asleep, Address, Latch, Protected, Reserved, Long, Unarmed}
+use Rattle.record.specs.declared.Class.{Class}
+use Rattle.record.specs.declared.Class.the-variants as Of
+use Rattle.record.specs.declared.Make.{Make}
+use Rattle.record.specs.declared.Device.{Device}
+use Rattle.record.specs.Answers.{answerNumber, doneIn, refusedIn, declinedIn, refuses, refusing}
+use Rattle.record.specs.Fresh.{freshRegisters, freshVolatile, freshIdentity, freshOf}
+use Rattle.record.specs.Latches.{kindNeeds, latchMissing}
+use Rattle.record.specs.Changes.{armTo, sleepTo, resetFor, resetOf, poweredOf}
 
-module _ (n : ℕ) (device unique : List ℕ) where
-  -- fresh chips are chips of their part
-  pub fresh-m-part : partOf (freshM n device unique .part) ≡ M
-  fresh-m-part = refl
+module _ (m : Make) (device unique : List ℕ) where
+  abbrev new : Part → Device
+  new p = record { make = m; registers = freshRegisters p; volatile = freshVolatile; identity = freshIdentity (familyOf p) device unique }
 
-  pub fresh-p-part : partOf (freshP n device .part) ≡ P
-  fresh-p-part = refl
+  reset-new : (p : Part) → resetFor (familyOf p) (new p) ≡ new p
+  reset-new M = refl
+  reset-new P = refl
 
   -- a fresh chip is as after a reset, and as after a power cycle
-  pub reset-fresh-m : resetOf (freshM n device unique) ≡ freshM n device unique
-  reset-fresh-m = refl
+  pub reset-fresh : resetOf (freshOf m device unique) ≡ freshOf m device unique
+  reset-fresh = reset-new (partOf (m .part))
 
-  pub reset-fresh-p : resetOf (freshP n device) ≡ freshP n device
-  reset-fresh-p = refl
+  pub powered-fresh : poweredOf (freshOf m device unique) ≡ freshOf m device unique
+  powered-fresh = ap (λ (d : Device). armTo false (sleepTo false d)) (reset-new (partOf (m .part)))
 
-  pub powered-fresh-m : poweredOf (freshM n device unique) ≡ freshM n device unique
-  powered-fresh-m = refl
+-- what is declined is neither done nor refused
+pub declined-only : (c : Class) → declinedIn c ≡ true → (doneIn c ≡ false) × (refusedIn c ≡ false)
+declined-only Of.Done e = untrue e
+declined-only Of.Refused e = untrue e
+declined-only Of.Declined e = (refl, refl)
 
-  pub powered-fresh-p : poweredOf (freshP n device) ≡ freshP n device
-  powered-fresh-p = refl
+-- a command that asks for no latch misses none
+pub no-latch : (f : Family) (cr4 : ℕ) (latch : Bool) (k : Kind) → kindNeeds cr4 k ≡ false → latchMissing f cr4 latch k ≡ false
+unfolding latchMissing
+no-latch Mram cr4 latch k e = rw e
+no-latch Psram cr4 latch k e = refl
+
+-- an answer refuses as its number does
+pub refusing-is : (v : Answer) → refusing (answerNumber v) ≡ refuses v
+refusing-is Done = refl
+refusing-is Size = refl
+refusing-is Sample = refl
+refusing-is State = refl
+refusing-is Short = refl
+refusing-is Unknown = refl
+refusing-is Asleep = refl
+refusing-is Address = refl
+refusing-is Latch = refl
+refusing-is Protected = refl
+refusing-is Reserved = refl
+refusing-is Long = refl
+refusing-is Unarmed = refl

@@ -4,18 +4,21 @@
 // its own. What changes a record is a method that takes it and returns the next.
 ghost use mathlib.Core.Path.{_≡_};
 ghost use lib.ListN.{getD};
-ghost use Rattle.record.specs.Answers.{answerNumber, isDone, refuses, isProtected};
-ghost use Rattle.record.specs.Devices.{modeWires, settingOf};
-ghost use Rattle.record.specs.Fresh.{freshM, freshP};
-ghost use Rattle.record.specs.Changes.{latchTo, armTo, modeTo, sleepTo, toggleTo, resetOf, poweredOf, controlled, writtenTo, burstDone, registerDone, effectOf, settledOf};
+ghost use Rattle.record.specs.Answers.{answerNumber, classOf, isDone, refuses, isProtected};
+ghost use Rattle.record.specs.Devices.{modeWires, settingOf, unclockedOf};
+ghost use Rattle.record.specs.Fresh.{freshRegisters, freshVolatile, freshIdentity, freshOf};
+ghost use Rattle.record.specs.Changes.{latchTo, armTo, modeTo, sleepTo, toggleTo, resetOf, poweredOf, controlled, writtenTo, burstDone, registerDone, writeDone, effectOf, declinedTo, settledOf};
 ghost use Rattle.record.specs.Latches.{kindNeeds, latchNeeded, latchMissing, afterBurst, afterRegister};
 ghost use Rattle.record.specs.Shows.{withoutLatch, statusShown, shown, shownByte};
+use counts::Counts;
 use opcodes::Control;
 use opcodes::Kind;
 use opcodes::Register;
-use parts::Mram;
+use opcodes::Target;
+use parts::Family;
 use parts::Part;
-use parts::Psram;
+use parts::PartM;
+use parts::PartP;
 use units::Bytes;
 use units::Wires;
 
@@ -56,22 +59,54 @@ pub fn answer_number(a: Answer) -> u8
     }
 }
 
-// 0: the command was done.
+// What became of a call: it was done, it was refused and nothing was clocked, or the device declined what was
+// clocked.
+pub enum Class {
+    Done,
+    Refused,
+    Declined,
+}
+
+pub fn class_of(a: Answer) -> Class
+    ensures { λ r. ⌜ r ≡ classOf a ⌝ }
+{
+    match a {
+        Answer::Done => Class::Done,
+        Answer::Size => Class::Refused,
+        Answer::Sample => Class::Refused,
+        Answer::State => Class::Refused,
+        Answer::Short => Class::Declined,
+        Answer::Unknown => Class::Declined,
+        Answer::Asleep => Class::Declined,
+        Answer::Address => Class::Declined,
+        Answer::Latch => Class::Declined,
+        Answer::Protected => Class::Declined,
+        Answer::Reserved => Class::Declined,
+        Answer::Long => Class::Declined,
+        Answer::Unarmed => Class::Declined,
+    }
+}
+
+// The command was done.
 pub fn is_done(a: Answer) -> bool
     ensures { λ r. ⌜ r ≡ isDone a ⌝ }
 {
-    answer_number(a) == 0
+    match class_of(a) {
+        Class::Done => true,
+        Class::Refused => false,
+        Class::Declined => false,
+    }
 }
 
-// 1, 2 and 3: the call was refused.
+// The call was refused.
 pub fn is_refusal(a: Answer) -> bool
     ensures { λ r. ⌜ r ≡ refuses a ⌝ }
 {
-    let v = answer_number(a);
-    if v < 1 {
-        return false;
+    match class_of(a) {
+        Class::Done => false,
+        Class::Refused => true,
+        Class::Declined => false,
     }
-    v <= 3
 }
 
 // 9: every byte of the burst was protected.
@@ -81,7 +116,7 @@ fn is_protected(a: Answer) -> bool
     answer_number(a) == 9
 }
 
-// The registers that keep their contents without power, and part P's mode register.
+// The registers that keep their contents without power, and the PSRAM's mode register.
 pub struct Registers {
     pub status: u8,
     pub protection: u8,
@@ -93,7 +128,7 @@ pub struct Registers {
 }
 
 // What does not outlive a power cycle: the bus mode (1, 2 or 4), the write latch, the arming of a reset, sleep,
-// and part P's toggle. A reset puts mode, latch and toggle back; the arming falls with the transaction that carried it.
+// and the PSRAM's toggle. A reset puts mode, latch and toggle back; the arming falls with the transaction that carried it.
 pub struct Volatile {
     pub mode: u8,
     pub latch: bool,
@@ -102,7 +137,7 @@ pub struct Volatile {
     pub toggle: bool,
 }
 
-// Identity and serial number, byte 0 first. Part M's device identity has four bytes, and the others
+// Identity and serial number, byte 0 first. The MRAM's device identity has four bytes, and the others
 // are 0.
 pub struct Identities {
     pub device: [u8; 8],
@@ -110,9 +145,14 @@ pub struct Identities {
     pub serial: [u8; 8],
 }
 
-pub struct Device {
+// What a chip is made of: its part, by number, and n, its memory having 2^n bytes.
+pub struct Make {
     pub part: u8,
     pub n: u8,
+}
+
+pub struct Device {
+    pub make: Make,
     pub registers: Registers,
     pub volatile: Volatile,
     pub identity: Identities,
@@ -129,6 +169,31 @@ pub struct Setting {
     pub registers: Registers,
 }
 
+// What a command is aimed at: the setting, with the kind and the address that were read.
+pub struct Aim {
+    pub setting: Setting,
+    pub kind: Kind,
+    pub address: u32,
+}
+
+// What a call answers: the answer, the five counts, and the next record.
+pub struct Outcome {
+    pub answer: Answer,
+    pub counts: Counts,
+    pub device: Device,
+}
+
+// A call without clocks.
+pub fn unclocked(answer: Answer, device: Device) -> Outcome
+    ensures { λ r. ⌜ r ≡ unclockedOf answer device ⌝ }
+{
+    Outcome {
+        answer,
+        counts: Counts::none(),
+        device,
+    }
+}
+
 // The wires of a bus mode.
 pub fn mode_wires(mode: u8) -> Wires
     ensures { λ r. ⌜ r ≡ modeWires mode ⌝ }
@@ -140,66 +205,80 @@ pub fn mode_wires(mode: u8) -> Wires
     }
 }
 
-impl Device {
-    // A fresh chip of part M.
-    pub fn fresh_m(n: u8, device: [u8; 4], unique: [u8; 8]) -> Self
-        ensures { λ r. ⌜ r ≡ freshM n device unique ⌝ }
+impl Registers {
+    // What a part's registers are when it is new.
+    pub fn fresh(part: Part) -> Self
+        ensures { λ r. ⌜ r ≡ freshRegisters part ⌝ }
     {
-        Device {
-            part: Mram::NUMBER,
-            n,
-            registers: Registers {
+        match part {
+            Part::M => Registers {
                 status: 0,
                 protection: 0,
                 cr1: 0,
-                cr2: Mram::FRESH_CR2,
+                cr2: PartM::FRESH_CR2,
                 cr3: 0,
-                cr4: Mram::FRESH_CR4,
+                cr4: PartM::FRESH_CR4,
                 mr0: 0,
             },
-            volatile: Volatile {
-                mode: 1,
-                latch: false,
-                armed: false,
-                asleep: false,
-                toggle: false,
-            },
-            identity: Identities {
-                device: [device[0], device[1], device[2], device[3], 0, 0, 0, 0],
-                unique,
-                serial: [0u8; 8],
-            },
-        }
-    }
-
-    // A fresh chip of part P.
-    pub fn fresh_p(n: u8, device: [u8; 8]) -> Self
-        ensures { λ r. ⌜ r ≡ freshP n device ⌝ }
-    {
-        Device {
-            part: Psram::NUMBER,
-            n,
-            registers: Registers {
+            Part::P => Registers {
                 status: 0,
                 protection: 0,
                 cr1: 0,
                 cr2: 0,
                 cr3: 0,
                 cr4: 0,
-                mr0: Psram::FRESH_MR0,
+                mr0: PartP::FRESH_MR0,
             },
-            volatile: Volatile {
-                mode: 1,
-                latch: false,
-                armed: false,
-                asleep: false,
-                toggle: false,
+        }
+    }
+}
+
+impl Volatile {
+    pub fn fresh() -> Self
+        ensures { λ r. ⌜ r ≡ freshVolatile ⌝ }
+    {
+        Volatile {
+            mode: 1,
+            latch: false,
+            armed: false,
+            asleep: false,
+            toggle: false,
+        }
+    }
+}
+
+impl Identities {
+    // The serial number of a new chip is 0, and so is what its family has not.
+    pub fn fresh(family: Family, device: [u8; 8], unique: [u8; 8]) -> Self
+        ensures { λ r. ⌜ r ≡ freshIdentity family device unique ⌝ }
+    {
+        match family {
+            Family::Mram => Identities {
+                device: [device[0], device[1], device[2], device[3], 0, 0, 0, 0],
+                unique,
+                serial: [0u8; 8],
             },
-            identity: Identities {
+            Family::Psram => Identities {
                 device,
                 unique: [0u8; 8],
                 serial: [0u8; 8],
             },
+        }
+    }
+}
+
+impl Device {
+    // A fresh chip of this make. Of the device identity the MRAM has the first four bytes; the PSRAM has no
+    // unique number.
+    pub fn fresh(make: Make, device: [u8; 8], unique: [u8; 8]) -> Self
+        ensures { λ r. ⌜ r ≡ freshOf make device unique ⌝ }
+    {
+        let part = Part::of(make.part);
+        Device {
+            make,
+            registers: Registers::fresh(part),
+            volatile: Volatile::fresh(),
+            identity: Identities::fresh(part.family(), device, unique),
         }
     }
 
@@ -208,9 +287,9 @@ impl Device {
     {
         let registers = self.registers;
         Setting {
-            part: Part::of(self.part),
+            part: Part::of(self.make.part),
             wires: mode_wires(self.volatile.mode),
-            n: self.n,
+            n: self.make.n,
             asleep: self.volatile.asleep,
             toggle: self.volatile.toggle,
             registers,
@@ -247,7 +326,7 @@ impl Device {
         self
     }
 
-    // Part P's toggle on or off.
+    // The PSRAM's toggle on or off.
     pub fn toggled(mut self, on: bool) -> Self
         ensures { λ r. ⌜ r ≡ toggleTo on self ⌝ }
     {
@@ -255,19 +334,19 @@ impl Device {
         self
     }
 
-    // Latch and mode on part M; mode, mode register and toggle on part P.
+    // Latch and mode on the MRAM; mode, mode register and toggle on the PSRAM.
     pub fn reset(mut self) -> Self
         ensures { λ r. ⌜ r ≡ resetOf self ⌝ }
     {
-        let part = Part::of(self.part);
+        let family = Part::of(self.make.part).family();
         self.volatile.mode = 1;
-        match part {
-            Part::M => {
+        match family {
+            Family::Mram => {
                 self.volatile.latch = false;
                 self
             }
-            Part::P => {
-                self.registers.mr0 = Psram::FRESH_MR0;
+            Family::Psram => {
+                self.registers.mr0 = PartP::FRESH_MR0;
                 self.volatile.toggle = false;
                 self
             }
@@ -381,7 +460,7 @@ impl Device {
         self.latched(after_burst(self.registers.cr4, self.volatile.latch))
     }
 
-    // A register write of part M, done. The write mode that counts is the one before it.
+    // A register write of the MRAM, done. The write mode that counts is the one before it.
     fn register_done(self, r: Register, value: [u8; 8]) -> Self
         ensures { λ d. ⌜ d ≡ registerDone r value self ⌝ }
     {
@@ -389,23 +468,27 @@ impl Device {
         self.written(r, value).latched(latch)
     }
 
+    // A write to this target, done.
+    fn write_done(self, to: Target, value: [u8; 8]) -> Self
+        ensures { λ r. ⌜ r ≡ writeDone to value self ⌝ }
+    {
+        match to {
+            Target::Register(r) => self.register_done(r, value),
+            Target::Mode => self.written(Register::ModeRegister, value),
+            Target::Memory(_) => self.burst_done(),
+            Target::Area => self.burst_done(),
+        }
+    }
+
     // A command of this kind, done.
-    pub fn effect(self, k: Kind, value: [u8; 8]) -> Self
+    fn effect(self, k: Kind, value: [u8; 8]) -> Self
         ensures { λ r. ⌜ r ≡ effectOf k value self ⌝ }
     {
         match k {
             Kind::Unknown => self,
             Kind::Plain(c) => self.controlled(c),
-            Kind::ReadRegister(_) => self,
-            Kind::ReadAny => self,
-            Kind::ReadMode => self,
-            Kind::ReadIdentity => self,
-            Kind::WriteRegister(r) => self.register_done(r, value),
-            Kind::WriteMode => self.written(Register::ModeRegister, value),
-            Kind::ReadMemory(_) => self,
-            Kind::WriteMemory(_) => self.burst_done(),
-            Kind::ReadArea => self,
-            Kind::WriteArea => self.burst_done(),
+            Kind::Read(_) => self,
+            Kind::Write(to) => self.write_done(to, value),
         }
     }
 
@@ -413,17 +496,22 @@ impl Device {
     pub fn settled(self, k: Kind, value: [u8; 8], answer: Answer) -> Self
         ensures { λ r. ⌜ r ≡ settledOf k value answer self ⌝ }
     {
-        if is_refusal(answer) {
-            return self;
-        }
         let d = self.armed(false);
-        if is_done(answer) {
-            return d.effect(k, value);
+        match class_of(answer) {
+            Class::Done => d.effect(k, value),
+            Class::Refused => self,
+            Class::Declined => d.declined(answer),
         }
+    }
+
+    // What is declined moves nothing, but 9 moves the latch as the write would have.
+    fn declined(self, answer: Answer) -> Self
+        ensures { λ r. ⌜ r ≡ declinedTo answer self ⌝ }
+    {
         if is_protected(answer) {
-            return d.burst_done();
+            return self.burst_done();
         }
-        d
+        self
     }
 }
 
@@ -439,20 +527,20 @@ fn byte_at(a: [u8; 8], i: Bytes) -> u8
 }
 
 // Whether a command of this kind needs the latch.
-pub fn latch_needed(part: Part, cr4: u8, k: Kind) -> bool
-    ensures { λ r. ⌜ r ≡ latchNeeded part cr4 k ⌝ }
+pub fn latch_needed(family: Family, cr4: u8, k: Kind) -> bool
+    ensures { λ r. ⌜ r ≡ latchNeeded family cr4 k ⌝ }
 {
-    match part {
-        Part::M => kind_needs(cr4, k),
-        Part::P => false,
+    match family {
+        Family::Mram => kind_needs(cr4, k),
+        Family::Psram => false,
     }
 }
 
 // Whether it needs the latch and the latch is down.
-pub fn latch_missing(part: Part, cr4: u8, latch: bool, k: Kind) -> bool
-    ensures { λ r. ⌜ r ≡ latchMissing part cr4 latch k ⌝ }
+pub fn latch_missing(family: Family, cr4: u8, latch: bool, k: Kind) -> bool
+    ensures { λ r. ⌜ r ≡ latchMissing family cr4 latch k ⌝ }
 {
-    if latch_needed(part, cr4, k) {
+    if latch_needed(family, cr4, k) {
         return !latch;
     }
     false
@@ -464,16 +552,13 @@ fn kind_needs(cr4: u8, k: Kind) -> bool
     match k {
         Kind::Unknown => false,
         Kind::Plain(_) => false,
-        Kind::ReadRegister(_) => false,
-        Kind::ReadAny => false,
-        Kind::ReadMode => false,
-        Kind::ReadIdentity => false,
-        Kind::WriteRegister(_) => true,
-        Kind::WriteMode => false,
-        Kind::ReadMemory(_) => false,
-        Kind::WriteMemory(_) => cr4 % 4 != 1,
-        Kind::ReadArea => false,
-        Kind::WriteArea => cr4 % 4 != 1,
+        Kind::Read(_) => false,
+        Kind::Write(to) => match to {
+            Target::Register(_) => true,
+            Target::Mode => false,
+            Target::Memory(_) => cr4 % 4 != 1,
+            Target::Area => cr4 % 4 != 1,
+        },
     }
 }
 

@@ -6,13 +6,14 @@ use lib.ListN.{length}
 use Rattle.counts.specs.Counts.{total}
 use Rattle.record.specs.declared.Device.{Device}
 use Rattle.paper.specs.Transaction.{over}
-use Rattle.clocking.specs.declared.Progress.{Progress}
-use Rattle.clocking.specs.Machine.{Run, runOf, outsOf}
+use Rattle.progress.specs.declared.Progress.{Progress}
+use Rattle.words.specs.Words.{Run}
+use Rattle.clocking.specs.Machine.{runOf, outsOf}
 
 -- a chip whose memory an address reaches, few enough clocks together with those before, and room for what they drive
 pub record Feedable (d : Device) (p : Progress) (xs out : List ℕ) : Type 0 where
-  pub reach : d .n ≤ 24
-  pub few : total (p .counts) .0 + length xs ≤ 65535
+  pub reach : d .make .n ≤ 24
+  pub few : total (p .tally .counts) .0 + length xs ≤ 65535
   pub room : length xs ≤ length out
 
 -- the machine has run over the samples, and the output has what it drove

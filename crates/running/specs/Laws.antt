@@ -11,41 +11,43 @@ use lib.ListN.{length, getD, drop, set, length-set, drop-of-length-le}
 use lib.Seq.{drop-cons, sets, sets-eq}
 use Rattle.units.specs.Units.{clocks, atMost}
 use Rattle.wires.specs.Bits.{shiftOf}
+use Rattle.parts.specs.Parts.{familyOf}
 use Rattle.opcodes.specs.declared.Kind.{Kind}
 use Rattle.opcodes.specs.Kinds.{kindOf}
-use Rattle.counts.specs.declared.Counts.{Counts}
 use Rattle.counts.specs.Counts.{total, commandTick, addressTick, waitTick, bodyTick}
 use Rattle.record.specs.declared.Device.{Device}
 use Rattle.record.specs.declared.Setting.{Setting}
-use Rattle.record.specs.Devices.{settingOf}
 use Rattle.paper.specs.InForce.{commandClocks, wiresFor, addressClocks, waitClocks, bodyFor}
 use Rattle.paper.specs.Transaction.{over}
-use Rattle.clocking.specs.declared.Phase.{Phase}
-use Rattle.clocking.specs.declared.Phase.the-variants.{Command, Address, Wait, Data, Rest}
-use Rattle.clocking.specs.declared.Progress.{Progress}
-use Rattle.clocking.specs.Machine.{fullAt, Run, toData, toWait, toAddress, commandStep, addressStep, waitStep, dataStep, stepIn, stepOf, driveOf, runOf, outsOf}
-use Rattle.feeding.specs.Views.{runAs}
+use Rattle.progress.specs.declared.Phase.{Phase}
+use Rattle.progress.specs.declared.Phase.the-variants.{Command, Address, Wait, Data, Rest}
+use Rattle.progress.specs.declared.Tally.{Tally}
+use Rattle.progress.specs.declared.Progress.{Progress}
+use Rattle.progress.specs.Progress.{counting}
+use Rattle.words.specs.Words.{Run, runAs}
+use Rattle.clocking.specs.declared.Terms.{Terms}
+use Rattle.clocking.specs.Machine.{termsOf, fullAt, toData, toWait, toAddress, commandStep, addressStep, waitStep, dataStep, stepIn, stepOf, driveOf, runOf, outsOf}
 use Rattle.running.specs.Fed.{Fed}
 
 -- the chunk law: running over samples and then over more is running over all
 pub run-append : (d : Device) (r : Run) (xs ys : List ℕ) → runOf d r (xs ++ ys) ≡ runOf d (runOf d r xs) ys
 unfolding runOf
 run-append d r [] ys = refl
-run-append d r (x ∷ xs) ys = run-append d (stepOf (settingOf d) (d .volatile .latch) r x) xs ys
+run-append d r (x ∷ xs) ys = run-append d (stepOf (termsOf d) r x) xs ys
 
 pub outs-append : (d : Device) (r : Run) (xs ys : List ℕ) → outsOf d r (xs ++ ys) ≡ outsOf d r xs ++ outsOf d (runOf d r xs) ys
 unfolding runOf outsOf
 outs-append d r [] ys = refl
-outs-append d r (x ∷ xs) ys = ap (λ (l : List ℕ). driveOf d r ∷ l) (outs-append d (stepOf (settingOf d) (d .volatile .latch) r x) xs ys)
+outs-append d r (x ∷ xs) ys = ap (λ (l : List ℕ). driveOf d r ∷ l) (outs-append d (stepOf (termsOf d) r x) xs ys)
 
 pub outs-length : (d : Device) (r : Run) (xs : List ℕ) → length (outsOf d r xs) ≡ length xs
 unfolding outsOf
 outs-length d r [] = refl
-outs-length d r (x ∷ xs) = ap suc (outs-length d (stepOf (settingOf d) (d .volatile .latch) r x) xs)
+outs-length d r (x ∷ xs) = ap suc (outs-length d (stepOf (termsOf d) r x) xs)
 
 -- ---- a clock is counted once
 abbrev clocksIn : Progress → ℕ
-clocksIn p = total (p .counts) .0
+clocksIn p = total (p .tally .counts) .0
 
 -- so many clocks are counted
 record Counted (p : Progress) (n : ℕ) : Type 0 where
@@ -56,62 +58,64 @@ chosen : (b : Bool) {p q : Progress} {n : ℕ} → Counted p n → Counted q n �
 chosen true e f = e
 chosen false e f = f
 
-chosen-run : (b : Bool) (p q : Run) {n : ℕ} → Counted (p .progress) n → Counted (q .progress) n → Counted (cond b p q .progress) n
-chosen-run true p q e f = e
-chosen-run false p q e f = f
-
 more : {p : Progress} {m n : ℕ} → Counted p m → m ≡ n → Counted p n
 more e f = record { is = e .is ∙ f }
 
-module _ (s : Setting) (k : Kind) (a : ℕ) (c : Counts) (v : List ℕ) (any : Bool) where
-  data-clocks : Counted (toData s k a c v any) (total c .0)
+module _ (s : Setting) (k : Kind) (a : ℕ) (t : Tally) where
+  data-clocks : Counted (toData s k a t) (total (t .counts) .0)
   unfolding toData
   data-clocks = chosen (fullAt (bodyFor s k a) (wiresFor s k) (clocks 0)) (record { is = refl }) (record { is = refl })
 
-  wait-clocks : Counted (toWait s k a c v any) (total c .0)
+  wait-clocks : Counted (toWait s k a t) (total (t .counts) .0)
   unfolding toWait
   wait-clocks = chosen (atMost (waitClocks s k a) (clocks 0)) data-clocks (record { is = refl })
 
-address-clocks : (s : Setting) (k : Kind) (c : Counts) (v : List ℕ) (any : Bool) → Counted (toAddress s k c v any) (total c .0)
+address-clocks : (s : Setting) (k : Kind) (t : Tally) → Counted (toAddress s k t) (total (t .counts) .0)
 unfolding toAddress
-address-clocks s k c v any = chosen (atMost (addressClocks s k) (clocks 0)) (wait-clocks s k 0 c v any) (record { is = refl })
+address-clocks s k t = chosen (atMost (addressClocks s k) (clocks 0)) (wait-clocks s k 0 t) (record { is = refl })
 
-module _ (s : Setting) (latch : Bool) (r : Run) (x : ℕ) where
-  command-one : Counted (commandStep s (r .progress) x) (clocksIn (r .progress) + 1)
+module _ (h : Terms) (r : Run) (x : ℕ) where
+  abbrev p : Progress
+  p = r .progress
+
+  abbrev s : Setting
+  s = h .setting
+
+  command-one : Counted (commandStep s p x) (clocksIn p + 1)
   unfolding commandStep
   command-one =
-      let p = r .progress in
-      chosen (atMost (commandClocks s) (commandTick (p .counts) .command))
-      (more (address-clocks s (kindOf (s .part) (s .wires) (shiftOf (s .wires) (p .number) x % 256)) (commandTick (p .counts)) (p .value) (p .any)) (omega arith))
+      let t = counting (commandTick (p .tally .counts)) (p .tally) in
+      chosen (atMost (commandClocks s) (t .counts .command))
+      (more (address-clocks s (kindOf (familyOf (s .part)) (s .wires) (shiftOf (s .wires) (p .number) x % 256)) t) (omega arith))
       (record { is = omega arith })
 
-  address-one : Counted (addressStep s (r .progress) x) (clocksIn (r .progress) + 1)
+  address-one : Counted (addressStep s p x) (clocksIn p + 1)
   unfolding addressStep
   address-one =
-      let p = r .progress in
-      chosen (atMost (addressClocks s (p .kind)) (addressTick (p .counts) .address))
-      (more (wait-clocks s (p .kind) (shiftOf (wiresFor s (p .kind)) (p .number) x) (addressTick (p .counts)) (p .value) (p .any)) (omega arith))
+      let t = counting (addressTick (p .tally .counts)) (p .tally) in
+      chosen (atMost (addressClocks s (p .kind)) (t .counts .address))
+      (more (wait-clocks s (p .kind) (shiftOf (wiresFor s (p .kind)) (p .number) x) t) (omega arith))
       (record { is = omega arith })
 
-  wait-one : Counted (waitStep s (r .progress)) (clocksIn (r .progress) + 1)
+  wait-one : Counted (waitStep s p) (clocksIn p + 1)
   unfolding waitStep
   wait-one =
-      let p = r .progress in
-      chosen (atMost (waitClocks s (p .kind) (p .address)) (waitTick (p .counts) .wait))
-      (more (data-clocks s (p .kind) (p .address) (waitTick (p .counts)) (p .value) (p .any)) (omega arith))
+      let t = counting (waitTick (p .tally .counts)) (p .tally) in
+      chosen (atMost (waitClocks s (p .kind) (p .address)) (t .counts .wait))
+      (more (data-clocks s (p .kind) (p .address) t) (omega arith))
       (record { is = omega arith })
 
-  data-one : Counted (dataStep s latch r x .progress) (clocksIn (r .progress) + 1)
+  data-one : Counted (dataStep h r x .progress) (clocksIn p + 1)
   unfolding dataStep
   data-one =
-      let p = r .progress in
-      chosen-run (fullAt (bodyFor s (p .kind) (p .address)) (wiresFor s (p .kind)) (bodyTick (p .counts) .body)) _ _ (record { is = omega arith }) (record { is = omega arith })
+      chosen (fullAt (bodyFor s (p .kind) (p .address)) (wiresFor s (p .kind)) (bodyTick (p .tally .counts) .body))
+      (record { is = omega arith }) (record { is = omega arith })
 
-  pub step-one : clocksIn (stepOf s latch r x .progress) ≡ clocksIn (r .progress) + 1
+  pub step-one : clocksIn (stepOf h r x .progress) ≡ clocksIn p + 1
   unfolding stepOf
-  step-one = by (r .progress .phase) .is
+  step-one = by (p .phase) .is
     where
-      by : (f : Phase) → Counted (stepIn f s latch r x .progress) (clocksIn (r .progress) + 1)
+      by : (f : Phase) → Counted (stepIn f h r x .progress) (clocksIn p + 1)
       by Command = command-one
       by Address = address-one
       by Wait = wait-one
@@ -133,13 +137,13 @@ run-start d m a xs o q = record { seen = omega arith; left = refl; outs = refl; 
 
 module _ {d : Device} {m₀ a₀ xs o₀ : List ℕ} {q₀ : Progress} {m a o : List ℕ} {q : Progress} {i : ℕ} (f : Running d m₀ a₀ xs o₀ q₀ m a o q i) where
   pub run-turn : {m′ a′ : List ℕ} {q′ : Progress} {v : ℕ} → i < length xs
-      → v ≡ driveOf d (runAs q m a) → runAs q′ m′ a′ ≡ stepOf (settingOf d) (d .volatile .latch) (runAs q m a) (getD xs i 0)
+      → v ≡ driveOf d (runAs q m a) → runAs q′ m′ a′ ≡ stepOf (termsOf d) (runAs q m a) (getD xs i 0)
       → length m′ ≡ length m → length a′ ≡ length a → Running d m₀ a₀ xs o₀ q₀ m′ a′ (set o i v) q′ (i + 1)
   unfolding runOf outsOf
   run-turn {m′} {a′} {q′} {v} h e g km ka =
       let l = rw (drop-cons xs i 0 h) at (f .left) in
       let u = rw (drop-cons xs i 0 h) at (f .outs) in
-      let t : clocksIn q′ ≡ clocksIn q + 1 = ap (λ (r : Run). clocksIn (r .progress)) g ∙ step-one (settingOf d) (d .volatile .latch) (runAs q m a) (getD xs i 0) in
+      let t : clocksIn q′ ≡ clocksIn q + 1 = ap (λ (r : Run). clocksIn (r .progress)) g ∙ step-one (termsOf d) (runAs q m a) (getD xs i 0) in
       let n = f .count in
       let y = f .memory in
       let z = f .area in

@@ -1,11 +1,11 @@
 // A stretch of clocks fed to an unfinished transaction: what each drives goes to the output, and what they
 // leave comes back.
 ghost use Prim.Native.Nat.{_+_};
-ghost use Rattle.feeding.specs.Views.{runAs};
+ghost use Rattle.words.specs.Words.{runAs};
 ghost use Rattle.running.specs.Fed.{Feedable, Fed};
-use clocking::Progress;
 use feeding::drive;
 use feeding::step;
+use progress::Progress;
 use record::Device;
 
 pub fn feed(
@@ -19,14 +19,13 @@ pub fn feed(
     requires { ⌜ Feedable d p (now samples) (now output) ⌝ }
     ensures { λ r. ⌜ Fed d (runAs p (now (memory .entry)) (now (area .entry))) (now (samples .entry)) (now (output .entry)) (runAs r (now (memory .exit)) (now (area .exit))) (now (output .exit)) ⌝ }
 {
-    let s = d.setting();
-    let latch = d.volatile.latch;
+    let h = clocking::terms_of(d);
     let mut q = p;
     let mut i = 0;
     while i < samples.len() {
         let x = samples[i];
         output[i] = drive(d, q, memory, area);
-        q = step(s, latch, q, x, memory, area);
+        q = step(h, q, x, memory, area);
         i += 1;
     }
     q

@@ -5,12 +5,14 @@ use mathlib.Core.List.{List, _++_}
 use lib.Dec.{ltb}
 use lib.ListN.{length, take, drop, replicate}
 use Rattle.units.specs.Units.{bytes}
+use Rattle.parts.specs.declared.Part.the-variants.{P}
+use Rattle.parts.specs.Parts.{leastOf}
 use Rattle.record.specs.declared.Answer.the-variants.{Size}
-use Rattle.record.specs.Fresh.{freshP}
-use Rattle.bursts.specs.Lends.{lends}
+use Rattle.record.specs.Devices.{unclockedOf}
+use Rattle.record.specs.Fresh.{makeOf, freshOf}
 use Rattle.paper.specs.Storing.{Lent}
 use Rattle.paper.specs.Transaction.{World}
-use Rattle.device.specs.Outcomes.{unclockedOf, outcomeIn}
+use Rattle.words.specs.Words.{lends, outcomeIn}
 use Rattle.tape.specs.declared.Entry.{Entry}
 use Rattle.tape.specs.declared.Entry.the-variants.{End, Bad, Transaction, PowerCycle, Fresh}
 use Rattle.tape.specs.declared.Found.{Found}
@@ -22,7 +24,7 @@ use Rattle.session.specs.declared.Turn.{Turn}
 
 -- the front of a tape and an empty socket; the record stands for no chip
 abbrev pub started : Session
-started = record { at = 0; chip = false; socket = record { memory = bytes 0; area = bytes 0 }; device = freshP 10 (replicate 8 0) }
+started = record { at = 0; chip = false; socket = record { memory = bytes 0; area = bytes 0 }; device = freshOf (makeOf P (leastOf P)) (replicate 8 0) (replicate 8 0) }
 
 -- how many bytes the chip has that a record is played on: a fresh one's own, or those of the chip in the socket
 abbrev pub bytesFor : Entry → Socket → Socket
@@ -30,7 +32,7 @@ bytesFor End now = now
 bytesFor (Bad fault) now = now
 bytesFor Transaction now = now
 bytesFor PowerCycle now = now
-bytesFor (Fresh part n) now = socketOf part n
+bytesFor (Fresh m) now = socketOf m
 
 -- a turn and what it leaves of all that is lent
 pub record Turned : Type 0 where

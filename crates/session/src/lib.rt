@@ -1,11 +1,14 @@
 // A tape played record by record: the place on it, and the chip in the socket.
 ghost use mathlib.Core.Path.{_≡_};
-ghost use Rattle.bursts.specs.Lends.{lends};
+ghost use Rattle.words.specs.Words.{lends};
 ghost use Rattle.session.specs.Session.{started, bytesFor, idleOf, turnedOf, turnOf};
-use judging::Outcome;
+use parts::PartP;
 use reader::found_at;
 use record::Answer;
 use record::Device;
+use record::Make;
+use record::Outcome;
+use record::unclocked;
 use tape::Entry;
 use tape::Socket;
 use tape::is_good;
@@ -29,10 +32,14 @@ pub struct Turn {
     pub session: Session,
 }
 
-// The front of a tape and an empty socket.
+// The front of a tape and an empty socket; the record stands for no chip.
 pub fn start() -> Session
     ensures { λ r. ⌜ r ≡ started ⌝ }
 {
+    let none = Make {
+        part: PartP::NUMBER,
+        n: PartP::LEAST,
+    };
     Session {
         at: 0,
         chip: false,
@@ -40,7 +47,7 @@ pub fn start() -> Session
             memory: Bytes(0),
             area: Bytes(0),
         },
-        device: Device::fresh_p(10, [0; 8]),
+        device: Device::fresh(none, [0; 8], [0; 8]),
     }
 }
 
@@ -53,7 +60,7 @@ fn bytes_for(e: Entry, now: Socket) -> Socket
         Entry::Bad(_) => now,
         Entry::Transaction => now,
         Entry::PowerCycle => now,
-        Entry::Fresh { part, n } => socket_of(part, n),
+        Entry::Fresh(make) => socket_of(make),
     }
 }
 
@@ -65,7 +72,7 @@ fn idle(s: Session, e: Entry) -> Turn
     Turn {
         good: false,
         entry: e,
-        outcome: device::unclocked(Answer::Size, d),
+        outcome: unclocked(Answer::Size, d),
         session: s,
     }
 }

@@ -11,8 +11,11 @@ use commands::registers::register_at;
 use list_names::put_kind;
 use list_names::put_part;
 use opcodes::Kind;
+use opcodes::Source;
 use opcodes::kind_of;
+use parts::Family;
 use parts::Part;
+use parts::PartM;
 use parts::group_length;
 use parts::share;
 use parts::wrap_length;
@@ -26,55 +29,52 @@ use text::put_word;
 use units::Bytes;
 use units::Wires;
 
-// Configuration 2 of a fresh chip, by which the wait of 4B is shown.
-const CR2: u8 = 8;
-
 // ---- the commands
 
 // The kind of an opcode in the first bus mode that has it.
-fn kind_in(p: Part, opcode: u8) -> Kind {
-    let one = kind_of(p, Wires::One, opcode);
+fn kind_in(f: Family, opcode: u8) -> Kind {
+    let one = kind_of(f, Wires::One, opcode);
     if !is_unknown(one) {
         return one;
     }
-    let two = kind_of(p, Wires::Two, opcode);
+    let two = kind_of(f, Wires::Two, opcode);
     if !is_unknown(two) {
         return two;
     }
-    kind_of(p, Wires::Four, opcode)
+    kind_of(f, Wires::Four, opcode)
 }
 
 // A bus mode, where the opcode is known in it.
-fn put_mode(page: &mut [u8], at: usize, p: Part, w: Wires, opcode: u8, digit: u8) -> usize {
-    if is_unknown(kind_of(p, w, opcode)) {
+fn put_mode(page: &mut [u8], at: usize, f: Family, w: Wires, opcode: u8, digit: u8) -> usize {
+    if is_unknown(kind_of(f, w, opcode)) {
         return at;
     }
     let a = put(page, at, digit);
     put(page, a, b' ')
 }
 
-fn put_modes(page: &mut [u8], at: usize, p: Part, opcode: u8) -> usize {
+fn put_modes(page: &mut [u8], at: usize, f: Family, opcode: u8) -> usize {
     let a = put_all(page, at, b" | ");
-    let b = put_mode(page, a, p, Wires::One, opcode, b'1');
-    let c = put_mode(page, b, p, Wires::Two, opcode, b'2');
-    put_mode(page, c, p, Wires::Four, opcode, b'4')
+    let b = put_mode(page, a, f, Wires::One, opcode, b'1');
+    let c = put_mode(page, b, f, Wires::Two, opcode, b'2');
+    put_mode(page, c, f, Wires::Four, opcode, b'4')
 }
 
-// The wait in it.
-fn put_wait(page: &mut [u8], at: usize, p: Part, w: Wires, opcode: u8) -> usize {
-    let k = kind_of(p, w, opcode);
+// The wait in it. That of 4B, which stands in configuration 2, is shown as a fresh chip has it.
+fn put_wait(page: &mut [u8], at: usize, f: Family, w: Wires, opcode: u8) -> usize {
+    let k = kind_of(f, w, opcode);
     if is_unknown(k) {
         return at;
     }
-    let a = put_decimal(page, at, wait_of(k, w, CR2).0 as u64);
+    let a = put_decimal(page, at, wait_of(k, w, PartM::FRESH_CR2).0 as u64);
     put(page, a, b' ')
 }
 
-fn put_waits(page: &mut [u8], at: usize, p: Part, opcode: u8) -> usize {
+fn put_waits(page: &mut [u8], at: usize, f: Family, opcode: u8) -> usize {
     let a = put_all(page, at, b" | ");
-    let b = put_wait(page, a, p, Wires::One, opcode);
-    let c = put_wait(page, b, p, Wires::Two, opcode);
-    put_wait(page, c, p, Wires::Four, opcode)
+    let b = put_wait(page, a, f, Wires::One, opcode);
+    let c = put_wait(page, b, f, Wires::Two, opcode);
+    put_wait(page, c, f, Wires::Four, opcode)
 }
 
 // On which wires all but the command travels, by its number in a list.
@@ -152,22 +152,23 @@ fn put_body(page: &mut [u8], at: usize, b: Body) -> usize {
     put_all(page, d, b" |\n")
 }
 
-fn put_command(page: &mut [u8], p: Part, opcode: u8, k: Kind) -> usize {
+fn put_command(page: &mut [u8], f: Family, opcode: u8, k: Kind) -> usize {
     let a = put_all(page, 0, b"| ");
     let b = put_hex(page, a, opcode as u64, 2);
     let c = put_all(page, b, b" | ");
     let d = put_kind(page, c, k);
-    put_modes(page, d, p, opcode)
+    put_modes(page, d, f, opcode)
 }
 
 fn command_row(page: &mut [u8], p: Part, opcode: u8) {
-    let k = kind_in(p, opcode);
+    let f = p.family();
+    let k = kind_in(f, opcode);
     if is_unknown(k) {
         return;
     }
-    let a = put_command(page, p, opcode, k);
+    let a = put_command(page, f, opcode, k);
     let b = put_plan(page, a, k);
-    let c = put_waits(page, b, p, opcode);
+    let c = put_waits(page, b, f, opcode);
     let d = put_body(page, c, body_of(p, k, 0));
     flush(page, d);
 }
@@ -187,7 +188,7 @@ fn put_commands(page: &mut [u8], p: Part) {
 
 fn mapped_kind(m: Mapped) -> Kind {
     match m {
-        Mapped::At(r) => Kind::ReadRegister(r),
+        Mapped::At(r) => Kind::Read(Source::Register(r)),
         Mapped::Nowhere => Kind::Unknown,
     }
 }
@@ -271,7 +272,7 @@ fn main() {
         &mut page,
         b"\n### Groups of part M's reads, by CR3[2:0]\n\n| code | bytes |\n|---|---|\n",
     );
-    rows(&mut page, 4, 5);
+    rows(&mut page, 4, PartM::WRAP_CODES as u32);
     head(
         &mut page,
         b"\n### Groups of part P, by MR0[6:5]\n\n| code | bytes |\n|---|---|\n",

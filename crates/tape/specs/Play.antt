@@ -6,13 +6,12 @@ use lib.Dec.{ltb}
 use lib.ListN.{length, replicate}
 use Rattle.units.specs.declared.Bytes.{Bytes}
 use Rattle.units.specs.Units.{bytes}
-use Rattle.parts.specs.declared.Part.{Part}
-use Rattle.parts.specs.declared.Part.the-variants.{M, P}
 use Rattle.parts.specs.Parts.{partOf, areaOf}
 use Rattle.counts.specs.Counts.{noCounts}
 use Rattle.record.specs.declared.Answer.the-variants.{Done, Size}
+use Rattle.record.specs.declared.Make.{Make}
 use Rattle.record.specs.declared.Device.{Device}
-use Rattle.record.specs.Fresh.{freshM, freshP}
+use Rattle.record.specs.Fresh.{freshOf}
 use Rattle.places.specs.Addresses.{memorySize}
 use Rattle.paper.specs.Storing.{Lent}
 use Rattle.paper.specs.Transaction.{World, refusal, transactOf, powerOf}
@@ -27,19 +26,14 @@ isGood chip End = false
 isGood chip (Bad fault) = false
 isGood chip Transaction = chip
 isGood chip PowerCycle = chip
-isGood chip (Fresh part n) = true
+isGood chip (Fresh m) = true
 
 -- the bytes of memory and of area that a chip has
 unfoldable pub memoryOf : ℕ → Bytes
 memoryOf n = cond (ltb 24 n) (bytes 0) (memorySize n)
 
-abbrev pub socketOf : ℕ → ℕ → Socket
-socketOf part n = record { memory = memoryOf n; area = areaOf (partOf part) }
-
--- a fresh chip, its identity and numbers 0
-abbrev pub freshFor : Part → ℕ → Device
-freshFor M n = freshM n (replicate 4 0) (replicate 8 0)
-freshFor P n = freshP n (replicate 8 0)
+abbrev pub socketOf : Make → Socket
+socketOf m = record { memory = memoryOf (m .n); area = areaOf (partOf (m .part)) }
 
 abbrev pub wiped : Lent → Lent
 wiped l = record { memory = replicate (length (l .memory)) 0; area = replicate (length (l .area)) 0 }
@@ -48,13 +42,14 @@ wiped l = record { memory = replicate (length (l .memory)) 0; area = replicate (
 abbrev pub showing : List ℕ → World → World
 showing out w = record { answer = w .answer; counts = w .counts; device = w .device; lent = w .lent; output = out }
 
--- WHAT A RECORD DOES: where there is none to be played, nothing changes
+-- WHAT A RECORD DOES: where there is none to be played, nothing changes; of a fresh chip all is 0 that it is made with, identity and numbers too
 abbrev pub playOf : Entry → Device → Lent → List ℕ → List ℕ → World
-playOf End d l xs out = refusal Size d l out
-playOf (Bad fault) d l xs out = refusal Size d l out
+playOf End d l xs out = refusal d l out Size
+playOf (Bad fault) d l xs out = refusal d l out Size
 playOf Transaction d l xs out = transactOf d l xs out
 playOf PowerCycle d l xs out = showing out (powerOf d l)
-playOf (Fresh part n) d l xs out = record { answer = Done; counts = noCounts; device = freshFor (partOf part) n; lent = wiped l; output = out }
+playOf (Fresh m) d l xs out =
+    record { answer = Done; counts = noCounts; device = freshOf m (replicate 8 0) (replicate 8 0); lent = wiped l; output = out }
 
 -- the record at a place
 unfoldable pub playedAt : List ℕ → ℕ → Device → Lent → List ℕ → World

@@ -5,6 +5,7 @@ use mathlib.Core.List.{List}
 use lib.Dec.{eqb, leb, ltb}
 use lib.ListN.{length, getD, take, drop}
 use Rattle.parts.specs.Parts.{knownPart}
+use Rattle.record.specs.declared.Make.{Make}
 use Rattle.tape.specs.declared.Entry.{Entry}
 use Rattle.tape.specs.declared.Entry.the-variants.{End, Bad, Transaction, PowerCycle, Fresh}
 use Rattle.tape.specs.declared.Fault.the-variants.{Cut, Strange, Samples, Power, Chip}
@@ -15,15 +16,15 @@ unfoldable pub wordAt : List ℕ → ℕ → ℕ
 wordAt tape at = getD tape at 0 + 256 * getD tape (at + 1) 0
 
 -- kind 3: the part, and an n of 10 to 15 though larger chips exist
-unfoldable pub freshEntry : ℕ → ℕ → Entry
-freshEntry part n = cond (not (knownPart part)) (Bad Chip) (cond (ltb n 10) (Bad Chip) (cond (ltb 15 n) (Bad Chip) (Fresh part n)))
+unfoldable pub freshEntry : Make → Entry
+freshEntry m = cond (not (knownPart (m .part))) (Bad Chip) (cond (ltb (m .n) 10) (Bad Chip) (cond (ltb 15 (m .n)) (Bad Chip) (Fresh m)))
 
 -- kinds 1, 2 and 3, each with the payload that it takes
 unfoldable pub entryFor : ℕ → List ℕ → Entry
 entryFor kind payload =
     cond (eqb kind 1) (cond (ltb 4096 (length payload)) (Bad Samples) Transaction)
     (cond (eqb kind 2) (cond (eqb (length payload) 0) PowerCycle (Bad Power))
-    (cond (eqb kind 3) (cond (eqb (length payload) 2) (freshEntry (getD payload 0 0) (getD payload 1 0)) (Bad Chip)) (Bad Strange)))
+    (cond (eqb kind 3) (cond (eqb (length payload) 2) (freshEntry (record { part = getD payload 0 0; n = getD payload 1 0 })) (Bad Chip)) (Bad Strange)))
 
 abbrev pub found : Entry → ℕ → ℕ → Found
 found entry from next = record { entry = entry; from = from; next = next }

@@ -4,15 +4,27 @@
 ghost use mathlib.Core.Path.{_≡_};
 ghost use Prim.Native.Nat.{_+_, _<_};
 ghost use lib.ListN.{length};
-ghost use Rattle.bursts.specs.Lends.{lends};
-ghost use Rattle.parting.specs.Parting.{worldOf};
+ghost use Rattle.words.specs.Words.{lends, worldOf};
 ghost use Rattle.tape.specs.Tape.{wordAt, freshEntry, entryFor, nothingBut, foundOf};
-ghost use Rattle.tape.specs.Play.{isGood, memoryOf, socketOf, freshFor, playOf, playedAt};
-use judging::Outcome;
+ghost use Rattle.tape.specs.Play.{isGood, memoryOf, socketOf, playOf, playedAt};
 use parts::Part;
 use record::Answer;
 use record::Device;
+use record::Make;
+use record::Outcome;
+use record::unclocked;
 use units::Bytes;
+
+// The n of the smallest and of the largest chip that a tape has, and the bytes of the largest one's memory. There are
+// larger chips.
+const LEAST: u8 = 10;
+
+const MOST: u8 = 15;
+
+pub const LARGEST_MEMORY: usize = 32768;
+
+// The samples that a transaction on a tape has at most.
+pub const MOST_SAMPLES: usize = 4096;
 
 // What is wrong with a bad record: it is cut short, it is of a kind that there is not, or its payload is not one of its
 // kind, which is a transaction's, a power cycle's or a fresh chip's.
@@ -30,7 +42,7 @@ pub enum Entry {
     Bad(Fault),
     Transaction,
     PowerCycle,
-    Fresh { part: u8, n: u8 },
+    Fresh(Make),
 }
 
 // What stands at a place: the record, where its payload begins, and where the next record does. Both are 0
@@ -59,20 +71,20 @@ fn word_at(tape: &[u8], at: usize) -> usize
     tape[at] as usize + 256 * (tape[at + 1] as usize)
 }
 
-// A fresh chip of a part and a size that the tape has.
-fn fresh_entry(part: u8, n: u8) -> Entry
-    ensures { λ r. ⌜ r ≡ freshEntry part n ⌝ }
+// A fresh chip of a make that the tape has.
+fn fresh_entry(make: Make) -> Entry
+    ensures { λ r. ⌜ r ≡ freshEntry make ⌝ }
 {
-    if !Part::is_known(part) {
+    if !Part::is_known(make.part) {
         return Entry::Bad(Fault::Chip);
     }
-    if n < 10 {
+    if make.n < LEAST {
         return Entry::Bad(Fault::Chip);
     }
-    if 15 < n {
+    if MOST < make.n {
         return Entry::Bad(Fault::Chip);
     }
-    Entry::Fresh { part, n }
+    Entry::Fresh(make)
 }
 
 // What a kind and a payload ask for.
@@ -80,7 +92,7 @@ fn entry_for(kind: usize, payload: &[u8]) -> Entry
     ensures { λ r. ⌜ r ≡ entryFor kind (now (payload .entry)) ⌝ }
 {
     if kind == 1 {
-        if 4096 < payload.len() {
+        if MOST_SAMPLES < payload.len() {
             return Entry::Bad(Fault::Samples);
         }
         return Entry::Transaction;
@@ -97,7 +109,10 @@ fn entry_for(kind: usize, payload: &[u8]) -> Entry
     if payload.len() != 2 {
         return Entry::Bad(Fault::Chip);
     }
-    fresh_entry(payload[0], payload[1])
+    fresh_entry(Make {
+        part: payload[0],
+        n: payload[1],
+    })
 }
 
 // THE CURSOR: what stands at a place of the tape.
@@ -137,7 +152,7 @@ pub fn is_good(chip: bool, e: Entry) -> bool
         Entry::Bad(_) => false,
         Entry::Transaction => chip,
         Entry::PowerCycle => chip,
-        Entry::Fresh { part: _, n: _ } => true,
+        Entry::Fresh(_) => true,
     }
 }
 
@@ -151,27 +166,17 @@ fn memory_of(n: u8) -> Bytes
     places::memory_size(n)
 }
 
-pub fn socket_of(part: u8, n: u8) -> Socket
-    ensures { λ r. ⌜ r ≡ socketOf part n ⌝ }
+pub fn socket_of(make: Make) -> Socket
+    ensures { λ r. ⌜ r ≡ socketOf make ⌝ }
 {
-    let p = Part::of(part);
+    let p = Part::of(make.part);
     Socket {
-        memory: memory_of(n),
+        memory: memory_of(make.n),
         area: p.area(),
     }
 }
 
-// A fresh chip whose identity and numbers are 0.
-fn fresh_for(p: Part, n: u8) -> Device
-    ensures { λ r. ⌜ r ≡ freshFor p n ⌝ }
-{
-    match p {
-        Part::M => Device::fresh_m(n, [0; 4], [0; 8]),
-        Part::P => Device::fresh_p(n, [0; 8]),
-    }
-}
-
-// What a record does to the chip.
+// What a record does to the chip. The identity and the numbers of a fresh one are 0.
 pub fn play(
     e: Entry,
     d: Device,
@@ -183,14 +188,14 @@ pub fn play(
     ensures { λ r. ⌜ worldOf r (now (memory .exit)) (now (area .exit)) (now (output .exit)) ≡ playOf e d (lends (now (memory .entry)) (now (area .entry))) (now (samples .entry)) (now (output .entry)) ⌝ }
 {
     match e {
-        Entry::End => device::unclocked(Answer::Size, d),
-        Entry::Bad(_) => device::unclocked(Answer::Size, d),
+        Entry::End => unclocked(Answer::Size, d),
+        Entry::Bad(_) => unclocked(Answer::Size, d),
         Entry::Transaction => device::transact(d, memory, area, samples, output),
         Entry::PowerCycle => device::power_cycle(d, memory, area),
-        Entry::Fresh { part, n } => {
+        Entry::Fresh(make) => {
             device::wipe(memory);
             device::wipe(area);
-            device::unclocked(Answer::Done, fresh_for(Part::of(part), n))
+            unclocked(Answer::Done, Device::fresh(make, [0; 8], [0; 8]))
         }
     }
 }

@@ -9,38 +9,41 @@ use lib.Dec.{ltb}
 use lib.ListN.{length, take, drop}
 use lib.Seq.{take-at}
 use borrow.Author.Tests.{le-leb, le-ltb, ltb-false}
-use Rattle.basis.specs.Truth.{untrue, neither}
+use Rattle.basis.specs.Truth.{untrue, never, neither}
 use Rattle.units.specs.declared.Clocks.{Clocks}
 use Rattle.units.specs.declared.Bytes.{Bytes}
 use Rattle.units.specs.declared.Wires.{Wires}
 use Rattle.units.specs.Units.{clocks, bytes, wiresOf, perByte, fewer}
-use Rattle.parts.specs.Parts.{partOf}
+use Rattle.parts.specs.Parts.{partOf, familyOf}
 use Rattle.opcodes.specs.declared.Kind.{Kind}
 use Rattle.commands.specs.declared.plans.Body.{Body}
 use Rattle.commands.specs.declared.plans.Body.the-variants as Bodies
-use Rattle.commands.specs.Plans.{addressOf, waitOf, bodyOf}
+use Rattle.commands.specs.Plans.{addressOf, waitOf, bodyOf, reads}
 use Rattle.record.specs.declared.Answer.{Answer}
 use Rattle.record.specs.declared.Answer.the-variants.{Done}
 use Rattle.record.specs.declared.Device.{Device}
 use Rattle.record.specs.Devices.{modeWires, settingOf}
 use Rattle.record.specs.declared.Setting.{Setting}
-use Rattle.record.specs.Answers.{isDone, refuses}
+use Rattle.record.specs.declared.Aim.{Aim}
+use Rattle.record.specs.Latches.{latchMissing}
+use Rattle.record.specs.Answers.{isDone}
 use Rattle.paper.specs.InForce.{unknown, asleepFor, commandClocks, addressLength, addressClocks, wiresFor}
 use Rattle.paper.specs.Reading.{first, many, dataPart, restPart, Parts, partsOf}
 use Rattle.paper.specs.Storing.{Lent}
 use Rattle.paper.specs.Driving.{byteRead, levelAt, drivenAt, along}
-use Rattle.paper.specs.Answers.{shutData, firstOf, judge}
+use Rattle.paper.specs.Table.{Table, answerBy, done-when-clear, by-row}
+use Rattle.paper.specs.Answers.{shutData, unarmed, reservedFor, tableFor, judge}
+use Rattle.paper.specs.CallLaws.{when-accepted}
+use Rattle.paper.specs.Laws.{Unrefused, unrefused-when}
 use Rattle.paper.specs.Transaction as tx
 use Rattle.paper.specs.Transaction.{World, clockedOf, roomFor, sampled, factsOf, over, transactOf}
-use Rattle.paper.specs.Building.{Order, kindAsked, asked, builtOf, buildRows, Told, buildOf}
+use Rattle.paper.specs.Building.{Order, kindAsked, asked, builtOf, refusalsOf, buildAnswer, Told, buildOf}
 use Rattle.paper.specs.Collecting.{collectOf}
-use Rattle.theorems.specs.ExactOrder.{past, table, exact-order, Clear, no-row, first-among, clear-rows}
-use Rattle.theorems.specs.Refused.{not-refused}
-use Rattle.theorems.specs.Driven.{reads, blank, three, driven-length}
+use Rattle.theorems.specs.Driven.{blank, three, driven-length}
 use Rattle.theorems.specs.Sent.{sampled-all, sampled-silent, sampled-spread}
 use Rattle.theorems.specs.Bytewise.{read-at}
 use Rattle.theorems.specs.Heard.{bytesFrom, bytes-same, leveled, group, driven, gathered}
-use Rattle.theorems.specs.Planned.{addressIn, read-in, alike, calm}
+use Rattle.theorems.specs.Planned.{addressIn, read-in, alike, Calm, calm}
 use Rattle.theorems.specs.Built.{Suits, allowed, unrefused, body-same, sentCommand, sentAddress, sentWait, sentData, built-so, command-full, address-full, wait-full, command-spelled, address-spelled, parts-built, bytesDriven, Carried, carried}
 use Rattle.theorems.specs.Meant.{Spelled, Meant, Lendable, sent, faultless}
 
@@ -56,12 +59,12 @@ module _ (o : Order) (room : List ℕ) (done : buildOf o room .answer ≡ Done) 
   abbrev pub built : List ℕ
   built = builtOf o k
 
-  host-answer : firstOf (buildRows o k room) ≡ Done
+  host-answer : buildAnswer o k room ≡ Done
   unfolding buildOf
-  host-answer = sym (either-answer (isDone (firstOf (buildRows o k room))) _ _ (firstOf (buildRows o k room)) refl refl) ∙ done
+  host-answer = sym (either-answer (isDone (buildAnswer o k room)) _ _ (buildAnswer o k room) refl refl) ∙ done
 
-  pub no-refusal : Clear (buildRows o k room)
-  no-refusal = clear-rows (buildRows o k room) (refl, (refl, (refl, (refl, (refl, (refl, tt)))))) (ap isDone host-answer)
+  pub no-refusal : Unrefused (refusalsOf o k room)
+  no-refusal = unrefused-when (refusalsOf o k room) (ap isDone host-answer)
 
   -- what the call left is what is built
   pub sent-is : sent (buildOf o room) ≡ built
@@ -76,7 +79,7 @@ module _ (o : Order) (room : List ℕ) (done : buildOf o room .answer ≡ Done) 
     suits = record { part = ap partOf (m .part); wires = ap modeWires (m .mode); awake = m .awake; waits = m .waits; allows = m .allows }
 
     pub known : unknown k ≡ false
-    known = no-refusal .0
+    known = no-refusal .unknown
 
     abbrev pub n : ℕ
     n = addressIn (addressOf k) (o .address)
@@ -101,8 +104,7 @@ module _ (o : Order) (room : List ℕ) (done : buildOf o room .answer ≡ Done) 
 
     pub carried-data : Carried body v o carries
     carried-data =
-        let c = no-refusal .1 .1 .1 in
-        carried v o (sp .written) body (asked k body) (alike s k (o .address) (allowed o s suits known)) (rw (suits .part) (c .0)) (rw (suits .part) (c .1 .0))
+        carried v o (sp .written) body (asked k body) (alike s k (o .address) (allowed o s suits known)) (rw (suits .part) (no-refusal .tooFew)) (rw (suits .part) (no-refusal .tooMany))
 
     abbrev pub reading : Parts
     reading =
@@ -121,12 +123,12 @@ module _ (o : Order) (room : List ℕ) (done : buildOf o room .answer ≡ Done) 
     read-so =
         ap (partsOf s) (built-so o s suits known)
         ∙ parts-built s command address wait carries k n (command-spelled o s suits known (sp .opcode)) (command-full o s suits known)
-        (address-spelled o s suits known (no-refusal .1 .0)) (address-full o s suits known) (wait-full o s suits known)
+        (address-spelled o s suits known (no-refusal .beyond)) (address-full o s suits known) (wait-full o s suits known)
         ∙ rw (body-same o s suits known)
 
     module _ (l : Lent) (out : List ℕ) (r : Lendable d l built out) where
       short-enough : length built ≤ 65535
-      short-enough = ltb-false 65535 (length built) (neither (ltb 65535 (length built)) (ltb (length room) (length built)) (no-refusal .1 .1 .1 .1 .1 .0) .0)
+      short-enough = ltb-false 65535 (length built) (neither (ltb 65535 (length built)) (ltb (length room) (length built)) (no-refusal .noRoom) .0)
 
       all-samples : sampled built ≡ true
       all-samples =
@@ -134,72 +136,107 @@ module _ (o : Order) (room : List ℕ) (done : buildOf o room .answer ≡ Done) 
           (sampled-all command address wait carries (sampled-spread (s .wires) (perByte (s .wires)) (o .opcode))
           (sampled-spread v (addressLength (addressOf k) v .0) (o .address)) (sampled-silent (waitOf k (s .wires) (o .cr2) .0)) (carried-data .samples))
 
+      -- the checks are passed
+      clocked : transactOf d l built out ≡ clockedOf d l built out
+      unfolding roomFor
+      clocked =
+          when-accepted d l built out
+          (record { sized = r .sized; room = rw (le-leb (length built) 65535 short-enough, le-leb (length built) (length out) (r .room)); levels = all-samples; valid = m .valid })
+
+      abbrev tests : Table
+      tests = tableFor d (factsOf s (partsOf s built))
+
+      judged : transactOf d l built out .answer ≡ answerBy tests
+      unfolding clockedOf judge
+      judged = ap (λ (w : World). w .answer) clocked
+
       full-count : (xs : List ℕ) (c : Clocks) → length xs ≡ c .0 → fewer (many xs) c ≡ false
       full-count xs c e = le-ltb (length xs) (c .0) (omega arith)
 
-      no-fault : Clear (take 10 (table d l built out))
-      unfolding factsOf roomFor asleepFor
-      no-fault =
-          rw (read-so, body-same o s suits known) (
-            rw (r .sized, le-leb (length built) 65535 short-enough, le-leb (length built) (length out) (r .room)) refl,
-            (
-              rw all-samples refl,
-              (
-                rw (m .valid) refl,
-                (
-                  full-count command (commandClocks s) (command-full o s suits known),
-                  (
-                    rw (m .awake) refl,
-                    (
-                      known,
-                      (
-                        full-count address (addressClocks s k) (address-full o s suits known),
-                        (
-                          unrefused o s suits known,
-                          (
-                            carried-data .enough,
-                            (
-                              carried-data .ended,
-                              tt,
-                            ),
-                          ),
-                        ),
-                      ),
-                    ),
-                  ),
-                ),
-              ),
-            ),
-          )
+      -- nothing is wrong with the clocks
+      record Sound (t : Table) : Type 0 where
+        cutCommand : t .cutCommand ≡ false
+        asleep : t .asleep ≡ false
+        unknown : t .unknown ≡ false
+        cutAddress : t .cutAddress ≡ false
+        refused : t .refused ≡ false
+        cutData : t .cutData ≡ false
+        long : t .long ≡ false
 
-      answered : transactOf d l built out .answer ≡ firstOf (drop 10 (table d l built out))
-      answered = exact-order d l built out ∙ past 10 (table d l built out) no-fault
+      sound : Sound tests
+      unfolding factsOf asleepFor
+      sound =
+          rw (read-so, body-same o s suits known)
+          (record {
+            cutCommand = full-count command (commandClocks s) (command-full o s suits known);
+            asleep = rw (m .awake) refl;
+            unknown = known;
+            cutAddress = full-count address (addressClocks s k) (address-full o s suits known);
+            refused = unrefused o s suits known;
+            cutData = carried-data .enough;
+            long = carried-data .ended;
+          })
 
       -- none of 1 to 7 and 11
       pub no-early : faultless (transactOf d l built out .answer) ≡ true
       no-early =
-          ap faultless answered
-          ∙ first-among (λ a. faultless a ≡ true) (drop 10 (table d l built out)) refl (refl, (refl, (refl, (refl, tt))))
+          ap faultless judged
+          ∙ by-row tests (λ a. faultless a ≡ true)
+          (record {
+            cutCommand = never (tests .cutCommand) (sound .cutCommand);
+            asleep = never (tests .asleep) (sound .asleep);
+            unknown = never (tests .unknown) (sound .unknown);
+            cutAddress = never (tests .cutAddress) (sound .cutAddress);
+            refused = never (tests .refused) (sound .refused);
+            cutData = never (tests .cutData) (sound .cutData);
+            long = never (tests .long) (sound .long);
+            unarmed = λ e. refl;
+            latch = λ e. refl;
+            reserved = λ e. refl;
+            shut = λ e. refl;
+            none = λ c. refl;
+          })
 
       module _ (e : reads body ≡ true) where
         abbrev pub number : ℕ
         number = bytesDriven body (o .wanted) .0
 
-        no-burst : (b : Body) (any : Bool) → reads b ≡ true → shutData b any ≡ false
-        no-burst Bodies.Nothing any e = refl
-        no-burst (Bodies.FixedRead c) any e = refl
-        no-burst Bodies.AnyRead any e = refl
-        no-burst (Bodies.FixedWrite c) any e = refl
-        no-burst Bodies.AnyWrite any e = untrue e
+        no-burst : (b : Body) (a : Aim) (i : Bytes) → reads b ≡ true → shutData b a i ≡ false
+        no-burst Bodies.Nothing a i e = refl
+        no-burst (Bodies.FixedRead c) a i e = refl
+        no-burst Bodies.AnyRead a i e = refl
+        no-burst (Bodies.FixedWrite c) a i e = refl
+        no-burst Bodies.AnyWrite a i e = untrue e
+
+        -- the rows that are left say nothing of a read
+        idle : Calm s (d .volatile .latch) (d .volatile .armed) (factsOf s (partsOf s built) .tally .value) k
+        idle = calm s (d .volatile .latch) (d .volatile .armed) _ k (o .address) e
+
+        shut-not : tests .shut ≡ false
+        unfolding factsOf
+        shut-not = rw (read-so, body-same o s suits known) (no-burst body _ _ e)
+
+        kind-so : factsOf s (partsOf s built) .kind ≡ k
+        unfolding factsOf
+        kind-so = ap (λ (p : Parts). p .kind) read-so
 
         pub read-done : transactOf d l built out .answer ≡ Done
-        unfolding factsOf
         read-done =
-            answered
-            ∙ no-row (drop 10 (table d l built out))
-            (rw (read-so, body-same o s suits known)
-            (let c = calm (s .part) (s .registers .cr4) (d .volatile .latch) (d .volatile .armed) _ k (o .address) e in
-            (c .0, (c .1 .0, (c .1 .1, (no-burst body _ e, tt))))))
+            judged
+            ∙ done-when-clear tests
+            (record {
+              cutCommand = sound .cutCommand;
+              asleep = sound .asleep;
+              unknown = sound .unknown;
+              cutAddress = sound .cutAddress;
+              refused = sound .refused;
+              cutData = sound .cutData;
+              long = sound .long;
+              unarmed = ap (unarmed (d .volatile .armed)) kind-so ∙ idle .armed;
+              latch = ap (latchMissing (familyOf (s .part)) (s .registers .cr4) (d .volatile .latch)) kind-so ∙ idle .latch;
+              reserved = ap (λ (q : Kind). reservedFor (s .part) q (factsOf s (partsOf s built) .tally .value)) kind-so ∙ idle .value;
+              shut = shut-not;
+            })
 
         abbrev f : Bytes → ℕ
         f i = byteRead d k n l i
@@ -207,12 +244,9 @@ module _ (o : Order) (room : List ℕ) (done : buildOf o room .answer ≡ Done) 
         small : (i : Bytes) → f i < 256
         small i = read-at d l (r .whole) k n i
 
-        clocked : transactOf d l built out ≡ clockedOf d l built out
-        clocked = not-refused d l built out (ap refuses read-done)
-
-        judged : judge d (factsOf d l (partsOf s built)) ≡ Done
-        unfolding clockedOf
-        judged = sym (ap (λ (w : World). w .answer) clocked) ∙ read-done
+        answer-so : judge d (factsOf s (partsOf s built)) ≡ Done
+        unfolding judge
+        answer-so = sym judged ∙ read-done
 
         -- the clocks of a read, one after the other
         level-along : (b : Body) → reads b ≡ true → (xs : List ℕ) → along (drivenAt b d k n l) 0 xs ≡ along (leveled v (group v f)) 0 xs
@@ -237,7 +271,7 @@ module _ (o : Order) (room : List ℕ) (done : buildOf o room .answer ≡ Done) 
         unfolding clockedOf over
         output-so =
             let ys = tx.outputOf d l (partsOf s built) Done in
-            rw (clocked, judged) (take-at ys (drop (length ys) out) (length built) (driven-length d l built Done)) ∙ driven-so
+            rw (clocked, answer-so) (take-at ys (drop (length ys) out) (length built) (driven-length d l built Done)) ∙ driven-so
 
         pub heard-so : (buffer : List ℕ) → number ≤ length buffer
             → collectOf (wiresOf v) (first (many built) (transactOf d l built out .output)) buffer

@@ -19,7 +19,7 @@ use Rattle.units.specs.Laws.{perByte-pos}
 use Rattle.units.specs.declared.Wires.the-variants.{One, Two, Four}
 use Rattle.wires.specs.Bits.{gatherFrom, gather, spelled}
 use Rattle.wires.specs.Laws.{spread-length}
-use Rattle.parts.specs.Parts.{partOf, knownPart}
+use Rattle.parts.specs.Parts.{partOf, familyOf, knownPart}
 use Rattle.opcodes.specs.declared.Kind.{Kind}
 use Rattle.opcodes.specs.declared.Kind.the-variants as Kinds
 use Rattle.opcodes.specs.Kinds.{kindOf}
@@ -27,7 +27,8 @@ use Rattle.commands.specs.declared.plans.Address.{Address}
 use Rattle.commands.specs.declared.plans.Address.the-variants.{Absent, InMemory, InArea, InMap, LowNibbleZero, Ignored}
 use Rattle.commands.specs.declared.plans.Body.{Body}
 use Rattle.commands.specs.declared.plans.Body.the-variants.{Nothing, FixedRead, AnyRead, FixedWrite, AnyWrite}
-use Rattle.commands.specs.Plans.{addressOf, waitOf, bodyOf, waitsByRegister}
+use Rattle.commands.specs.Plans.{addressOf, waitOf, bodyOf, waitsByRegister, reads, writes}
+use Rattle.commands.specs.PlanLaws.{wait-by}
 use Rattle.record.specs.declared.Setting.{Setting}
 use Rattle.values.specs.States.{modeAllowed}
 use Rattle.places.specs.Addresses.{allowedOf}
@@ -37,9 +38,9 @@ use Rattle.paper.specs.Answers.{shortData, longRest}
 use Rattle.paper.specs.Laws.{sent-many}
 use Rattle.paper.specs.Transaction.{sampled}
 use Rattle.paper.specs.Building.{Order, manyBytes, sentOn, kindAsked, asked, addressed, beyond, tooFew, tooMany, spreadAll, silent, dataSent, builtOf}
-use Rattle.theorems.specs.Driven.{reads, blank}
+use Rattle.theorems.specs.Driven.{blank}
 use Rattle.theorems.specs.Sent.{bytewise, sampled-silent, sampled-data, byte-read, address-read, data-read}
-use Rattle.theorems.specs.Planned.{addressIn, allowed-in, body-in, wait-by, Alike}
+use Rattle.theorems.specs.Planned.{addressIn, allowed-in, body-in, Alike}
 
 -- ---- the setting of a device that an order is for
 pub record Suits (o : Order) (s : Setting) : Type 0 where
@@ -51,21 +52,21 @@ pub record Suits (o : Order) (s : Setting) : Type 0 where
 
 -- ---- what an order that is built has
 -- the kind is the opcode's
-kind-known : (o : Order) (b : Bool) → unknown (cond b (kindOf (partOf (o .part)) (sentOn o) (o .opcode)) Kinds.Unknown) ≡ false
-    → cond b (kindOf (partOf (o .part)) (sentOn o) (o .opcode)) Kinds.Unknown ≡ kindOf (partOf (o .part)) (sentOn o) (o .opcode)
+kind-known : (o : Order) (b : Bool) → unknown (cond b (kindOf (familyOf (partOf (o .part))) (sentOn o) (o .opcode)) Kinds.Unknown) ≡ false
+    → cond b (kindOf (familyOf (partOf (o .part))) (sentOn o) (o .opcode)) Kinds.Unknown ≡ kindOf (familyOf (partOf (o .part))) (sentOn o) (o .opcode)
 kind-known o true e = refl
 kind-known o false e = untrue (sym e)
 
-kind-is : (o : Order) → unknown (kindAsked o) ≡ false → kindAsked o ≡ kindOf (partOf (o .part)) (sentOn o) (o .opcode)
+kind-is : (o : Order) → unknown (kindAsked o) ≡ false → kindAsked o ≡ kindOf (familyOf (partOf (o .part))) (sentOn o) (o .opcode)
 unfolding kindAsked
-kind-is o e = kind-known o (knownPart (o .part) && modeAllowed (partOf (o .part)) (o .mode)) e
+kind-is o e = kind-known o (knownPart (o .part) && modeAllowed (familyOf (partOf (o .part))) (o .mode)) e
 
 -- ---- samples put together phase by phase are read phase by phase
 full-of : (n : ℕ) (xs : List ℕ) → length xs ≡ n → leb n (length xs) ≡ true
 full-of n xs e = le-leb n (length xs) (omega arith)
 
 module _ (s : Setting) (c a w xs : List ℕ) (k : Kind) (n : ℕ)
-    (hk : kindOf (s .part) (s .wires) (gather (s .wires) c) ≡ k) (hc : length c ≡ commandClocks s .0)
+    (hk : kindOf (familyOf (s .part)) (s .wires) (gather (s .wires) c) ≡ k) (hc : length c ≡ commandClocks s .0)
     (hn : gather (wiresFor s k) a ≡ n) (ha : length a ≡ addressClocks s k .0)
     (hw : length w ≡ waitClocks s k n .0) where
   kind-built : kindRead s c ≡ k
@@ -164,8 +165,8 @@ module _ (o : Order) (s : Setting) (m : Suits o s) (known : unknown (kindAsked o
   unfolding waitClocks
   wait-full = rw free (length-replicate {A = ℕ} (waitOf k (s .wires) (o .cr2) .0) 0 ∙ ap (λ (c : Clocks). c .0) (sym (wait-by k (s .wires) (s .registers .cr2) (o .cr2) (m .waits))))
 
-  pub command-spelled : o .opcode < 256 → kindOf (s .part) (s .wires) (gather (s .wires) sentCommand) ≡ k
-  command-spelled h = ap (kindOf (s .part) (s .wires)) (byte-read (s .wires) (o .opcode) h) ∙ rw (m .part, m .wires) (sym (kind-is o known))
+  pub command-spelled : o .opcode < 256 → kindOf (familyOf (s .part)) (s .wires) (gather (s .wires) sentCommand) ≡ k
+  command-spelled h = ap (kindOf (familyOf (s .part)) (s .wires)) (byte-read (s .wires) (o .opcode) h) ∙ rw (m .part, m .wires) (sym (kind-is o known))
 
   -- the address that the samples spell is the one given, or 0 where there is none
   pub address-spelled : beyond k (o .address) ≡ false → gather v sentAddress ≡ n
@@ -184,14 +185,6 @@ module _ (o : Order) (s : Setting) (m : Suits o s) (known : unknown (kindAsked o
       by Ignored e = fits e
 
 -- ---- the data
--- the command writes
-abbrev pub writes : Body → Bool
-writes Nothing = false
-writes (FixedRead b) = false
-writes AnyRead = false
-writes (FixedWrite b) = true
-writes AnyWrite = true
-
 -- how many bytes a read of so many drives: of a register no more than it has
 abbrev pub bytesDriven : Body → Bytes → Bytes
 bytesDriven Nothing asked = bytes 0

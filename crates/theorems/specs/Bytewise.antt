@@ -12,8 +12,9 @@ use Rattle.basis.specs.Truth.{both-true}
 use Rattle.units.specs.declared.Bytes.{Bytes}
 use Rattle.opcodes.specs.declared.Register.{Register}
 use Rattle.opcodes.specs.declared.Register.the-variants.{Status, AreaProtection, Configuration1, Configuration2, Configuration3, Configuration4, Configurations, Identity, Unique, Serial, ModeRegister, LongIdentity}
+use Rattle.opcodes.specs.declared.Source.the-variants as From
 use Rattle.opcodes.specs.declared.Kind.{Kind}
-use Rattle.opcodes.specs.declared.Kind.the-variants.{Unknown, Plain, ReadRegister, ReadAny, ReadMode, ReadIdentity, WriteRegister, WriteMode, ReadMemory, WriteMemory, ReadArea, WriteArea}
+use Rattle.opcodes.specs.declared.Kind.the-variants.{Unknown, Plain, Read, Write}
 use Rattle.commands.specs.declared.registers.Mapped.{Mapped}
 use Rattle.commands.specs.declared.registers.Mapped.the-variants.{At, Nowhere}
 use Rattle.commands.specs.Registers.{mappedOf}
@@ -93,13 +94,10 @@ module _ (d : Device) (l : Lent) (w : Bytewise d l) where
   unfolding byteRead
   read-at Unknown a i = lit< tt
   read-at (Plain c) a i = lit< tt
-  read-at (ReadRegister r) a i = shown-at r i
-  read-at ReadAny a i = mapped-at (mappedOf (settingOf d .part) a) i
-  read-at ReadMode a i = shown-at ModeRegister i
-  read-at ReadIdentity a i = shown-at LongIdentity i
-  read-at (WriteRegister r) a i = lit< tt
-  read-at WriteMode a i = lit< tt
-  read-at (ReadMemory s) a i = byte-at (l .memory) (readPlace (settingOf d) a i) (w .memory)
-  read-at (WriteMemory s) a i = lit< tt
-  read-at ReadArea a i = byte-at (l .area) (areaPlace (settingOf d .part) a i) (w .area)
-  read-at WriteArea a i = lit< tt
+  read-at (Read (From.Register r)) a i = shown-at r i
+  read-at (Read From.Map) a i = mapped-at (mappedOf (settingOf d .part) a) i
+  read-at (Read From.Mode) a i = shown-at ModeRegister i
+  read-at (Read From.Identity) a i = shown-at LongIdentity i
+  read-at (Read (From.Memory r)) a i = byte-at (l .memory) (readPlace (settingOf d) a i) (w .memory)
+  read-at (Read From.Area) a i = byte-at (l .area) (areaPlace (settingOf d .part) a i) (w .area)
+  read-at (Write t) a i = lit< tt

@@ -22,7 +22,7 @@ use Rattle.paper.specs.InForce.{commandClocks, wiresFor, addressClocks, waitClo
 use Rattle.paper.specs.Reading.{many, dataPart, restPart, Parts, partsOf}
 use Rattle.paper.specs.Storing.{Lent}
 use Rattle.paper.specs.Transaction.{factsOf, clockedOf, transactOf}
-use Rattle.theorems.specs.Refused.{not-refused}
+use Rattle.paper.specs.CallLaws.{not-refused}
 
 -- ---- the parts, put together, are the samples
 abbrev pub together : Parts → List ℕ

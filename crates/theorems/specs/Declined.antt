@@ -1,38 +1,38 @@
--- DECLINED (demand 1): a transaction that is answered 4 to 12 leaves memory and area as they came in; of the record only the arming goes, and with 9 the latch moves as
+-- DECLINED (demand 1): a transaction that is declined, answered 4 to 12, leaves memory and area as they came in; of the record only the arming goes, and with 9 the latch moves as
 -- the write mode says; every clock drives 00h, the room past the clocks is kept, and the five counts add up to the clocks. So it is for every list of samples,
 -- and in particular for every cut of every longer one.
 -- Assumes nothing.
-use mathlib.Core.Path.{_≡_, ap, _∙_}
+use mathlib.Core.Path.{_≡_, refl, ap, _∙_}
 use Prim.Native.Nat.{ℕ}
-use native.Mathlib.Omega.{arith}
 use mathlib.Core.Bool.{true, false, cond}
 use mathlib.Core.List.{List, _++_}
-use lib.Dec.{leb}
 use lib.ListN.{length, replicate, length-append, replicate-append-replicate}
-use borrow.Author.Tests.{leb-true, le-leb, lt-leb, ne-eqb}
-use Rattle.basis.specs.Truth.{both-true}
+use Rattle.basis.specs.Truth.{untrue}
 use Rattle.opcodes.specs.declared.Kind.{Kind}
 use Rattle.counts.specs.Counts.{total}
 use Rattle.record.specs.declared.Answer.{Answer}
+use Rattle.record.specs.declared.Class.{Class}
+use Rattle.record.specs.declared.Class.the-variants as Of
+use Rattle.record.specs.Laws.{declined-only}
 use Rattle.record.specs.declared.Device.{Device}
 use Rattle.record.specs.Devices.{settingOf}
 use Rattle.record.specs.Latches.{afterBurst}
-use Rattle.record.specs.Changes.{latchTo, armTo, settledOf}
-use Rattle.record.specs.Answers.{answerNumber, isDone, refuses, declines, isProtected}
+use Rattle.record.specs.Changes.{latchTo, armTo, settledIn, settledOf}
+use Rattle.record.specs.Answers.{classOf, declinedIn, isDone, refuses, declines, isProtected}
 use Rattle.paper.specs.Reading.{many, Parts, partsOf}
 use Rattle.paper.specs.Storing.{Lent}
 use Rattle.paper.specs.Answers.{judge}
 use Rattle.paper.specs.Transaction.{World, factsOf, undriven, around, outputOf, over, clockedOf, transactOf}
-use Rattle.theorems.specs.Refused.{not-refused}
+use Rattle.paper.specs.CallLaws.{not-refused}
 use Rattle.theorems.specs.Counted.{together, parts-together, counts-add-up}
 
 -- The record after such an answer: no longer armed, and else as it was. 9 takes the latch down in write mode 0 and leaves it in every other.
-abbrev pub declinedTo : Answer → Device → Device
-declinedTo v d = cond (isProtected v) (latchTo (afterBurst (d .registers .cr4) (d .volatile .latch)) (armTo false d)) (armTo false d)
+abbrev pub leftBy : Answer → Device → Device
+leftBy v d = cond (isProtected v) (latchTo (afterBurst (d .registers .cr4) (d .volatile .latch)) (armTo false d)) (armTo false d)
 
 pub record Declined (d : Device) (l : Lent) (xs out : List ℕ) (w : World) : Type 0 where
   pub lent : w .lent ≡ l
-  pub device : w .device ≡ declinedTo (w .answer) d
+  pub device : w .device ≡ leftBy (w .answer) d
   pub output : w .output ≡ over (replicate (length xs) 0) out
   pub counts : total (w .counts) ≡ many xs
 
@@ -53,27 +53,29 @@ mute d l xs v e = rw e (zeros-together (partsOf (settingOf d) xs) ∙ ap (λ (ys
 
 -- ---- by the answer
 -- an answer that declines does not refuse, is not 0, and leaves the record as said
-record Of (k : Kind) (value : List ℕ) (d : Device) (v : Answer) : Type 0 where
+record Leaves (k : Kind) (value : List ℕ) (d : Device) (v : Answer) : Type 0 where
   undone : isDone v ≡ false
   unrefused : refuses v ≡ false
-  leaves : settledOf k value v d ≡ declinedTo v d
+  leaves : settledOf k value v d ≡ leftBy v d
 
-of : (k : Kind) (value : List ℕ) (d : Device) (v : Answer) → declines v ≡ true → Of k value d v
+leaves-by : (c : Class) (k : Kind) (value : List ℕ) (v : Answer) (d : Device) → declinedIn c ≡ true → settledIn c k value v d ≡ leftBy v d
+leaves-by Of.Done k value v d e = untrue e
+leaves-by Of.Refused k value v d e = untrue e
+leaves-by Of.Declined k value v d e = refl
+
+of : (k : Kind) (value : List ℕ) (d : Device) (v : Answer) → declines v ≡ true → Leaves k value d v
 of k value d v e =
-    let n = answerNumber v in
-    let four = leb-true 4 n (both-true (leb 4 n) (leb n 12) e .0) in
-    let done : isDone v ≡ false = ne-eqb n 0 (λ z. absurd (omega arith)) in
-    let kept : refuses v ≡ false = rw (le-leb 1 n (omega arith), lt-leb n 3 (omega arith)) in
-    record { undone = done; unrefused = kept; leaves = rw (kept, done) }
+    let n = declined-only (classOf v) e in
+    record { undone = n .0; unrefused = n .1; leaves = leaves-by (classOf v) k value v d e }
 
 pub declined : (d : Device) (l : Lent) (xs out : List ℕ) → declines (transactOf d l xs out .answer) ≡ true → Declined d l xs out (transactOf d l xs out)
 unfolding clockedOf
 declined d l xs out e =
-    let f = factsOf d l (partsOf (settingOf d) xs) in
+    let f = factsOf (settingOf d) (partsOf (settingOf d) xs) in
     let v = judge d f in
-    let unrefused = of (f .kind) (f .taken .value) d (transactOf d l xs out .answer) e .unrefused in
+    let unrefused = of (f .kind) (f .tally .value) d (transactOf d l xs out .answer) e .unrefused in
     let same = not-refused d l xs out unrefused in
-    let o = of (f .kind) (f .taken .value) d v (rw same at e) in
+    let o = of (f .kind) (f .tally .value) d v (rw same at e) in
     let sum = counts-add-up d l xs out unrefused in
     let clocked : (c : total (clockedOf d l xs out .counts) ≡ many xs) → Declined d l xs out (clockedOf d l xs out) =
     λ c. record { lent = rw (o .undone); device = o .leaves; output = ap (λ (ys : List ℕ). over ys out) (mute d l xs v (o .undone)); counts = c } in

@@ -21,6 +21,7 @@ use Rattle.wires.specs.LevelLaws.{driven-level, level-not-zero}
 use Rattle.opcodes.specs.declared.Kind.{Kind}
 use Rattle.commands.specs.declared.plans.Body.{Body}
 use Rattle.commands.specs.declared.plans.Body.the-variants.{Nothing, FixedRead, AnyRead, FixedWrite, AnyWrite}
+use Rattle.commands.specs.Plans.{reads}
 use Rattle.counts.specs.declared.Counts.{Counts}
 use Rattle.record.specs.declared.Answer.{Answer}
 use Rattle.record.specs.declared.Device.{Device}
@@ -33,16 +34,9 @@ use Rattle.paper.specs.Driving.{byteRead, levelAt, drivenAt, along}
 use Rattle.paper.specs.Answers.{judge}
 use Rattle.paper.specs.Transaction as tx
 use Rattle.paper.specs.Transaction.{World, factsOf, undriven, around, over, clockedOf, transactOf}
-use Rattle.theorems.specs.Refused.{not-refused}
+use Rattle.paper.specs.CallLaws.{not-refused}
+use Rattle.paper.specs.Laws.{along-length, along-zero, along-at}
 use Rattle.theorems.specs.Counted.{together, parts-together}
-
--- the command reads
-abbrev pub reads : Body → Bool
-reads Nothing = false
-reads (FixedRead b) = true
-reads AnyRead = true
-reads (FixedWrite b) = false
-reads AnyWrite = false
 
 -- clock i, counted from 0, is a data clock by the counts
 abbrev pub before : Counts → Clocks
@@ -61,24 +55,6 @@ drives d xs w i =
 abbrev pub Says : Bool → Wires → ℕ → Type 0
 Says true w x = (drivenOf w x ≡ true) × (x ≡ 0 → ⊥)
 Says false w x = x ≡ 0
-
--- ---- a value for each sample, by its place
-pub along-length : (f : Clocks → ℕ) (t : ℕ) (xs : List ℕ) → length (along f t xs) ≡ length xs
-unfolding along
-along-length f t [] = refl
-along-length f t (x ∷ xs) = ap suc (along-length f (t + 1) xs)
-
-pub along-zero : (xs : List ℕ) (t : ℕ) → along (λ c. 0) t xs ≡ replicate (length xs) 0
-unfolding along
-along-zero [] t = refl
-along-zero (x ∷ xs) t = ap (λ (l : List ℕ). 0 ∷ l) (along-zero xs (t + 1))
-
-pub along-at : (f : Clocks → ℕ) (xs : List ℕ) (t i : ℕ) → i < length xs → getD (along f t xs) i 0 ≡ f (clocks (t + i))
-unfolding along
-along-at f [] t i h = absurd (omega arith)
-along-at f (x ∷ xs) t Prim.Native.Nat.zero h = rw add-zero
-along-at f (x ∷ xs) t (suc i) h =
-    let e : t + 1 + i ≡ t + suc i = omega arith in along-at f xs (t + 1) i (omega arith) ∙ ap (λ (n : ℕ). f (clocks n)) e
 
 -- ---- an output between clocks that drive nothing
 abbrev pub blank : ℕ → List ℕ
@@ -199,7 +175,7 @@ pub driven : (d : Device) (l : Lent) (xs out : List ℕ) → refuses (transactOf
 unfolding clockedOf factsOf over tx.outputOf
 driven d l xs out e i h =
     let p = partsOf (settingOf d) xs in
-    let v = judge d (factsOf d l p) in
+    let v = judge d (factsOf (settingOf d) p) in
     let b = bodyFor (settingOf d) (p .kind) (p .address) in
     let n = length (p .commandPart) + length (p .addressPart) + length (p .waitPart) in
     let ys = tx.outputOf d l p v in

@@ -11,13 +11,14 @@ use Rattle.basis.specs.Truth.{untrue}
 use Rattle.units.specs.declared.Bytes.{Bytes}
 use Rattle.units.specs.Units.{bytes}
 use Rattle.wires.specs.Bits.{shiftOf, gatherFrom, spelled}
+use Rattle.parts.specs.declared.Part.the-variants.{M, P}
 use Rattle.parts.specs.Parts.{offered}
 use Rattle.opcodes.specs.Kinds.{entryOf}
 use Rattle.commands.specs.Registers.{mappedOf}
 use Rattle.record.specs.declared.Device.{Device}
-use Rattle.record.specs.Fresh.{freshM, freshP}
+use Rattle.record.specs.Fresh.{makeOf, freshOf}
 use Rattle.values.specs.Values.{statusAllowed, cr3Allowed, cr4Allowed, configurationsAllowed, modeRegisterAllowed}
-use Rattle.values.specs.States.{modeAllowed, zeros, registersM, registersP, volatileM, volatileP, identityM, identityP, validOf}
+use Rattle.values.specs.States.{modeAllowed, zeros, mramRegisters, psramRegisters, mramVolatile, psramVolatile, mramIdentity, psramIdentity, validOf}
 use Rattle.paper.specs.InForce.{refusedAt}
 use Rattle.paper.specs.Storing.{Lent}
 use Rattle.paper.specs.Transaction.{sizedFor, over}
@@ -38,13 +39,13 @@ room = replicate 128 0
 
 -- fresh chips with some memory
 abbrev chipM : Device
-chipM = freshM 10 (1 ∷ 2 ∷ 3 ∷ 4 ∷ []) (replicate 8 5)
+chipM = freshOf (makeOf M 10) (1 ∷ 2 ∷ 3 ∷ 4 ∷ replicate 4 0) (replicate 8 5)
 
 abbrev lentM : Lent
 lentM = record { memory = replicate 1024 0x5A; area = replicate 256 0xA5 }
 
 abbrev chipP : Device
-chipP = freshP 10 (replicate 8 6)
+chipP = freshOf (makeOf P 10) (replicate 8 6) (replicate 8 0)
 
 abbrev lentP : Lent
 lentP = record { memory = replicate 1024 0x5A; area = [] }
@@ -91,7 +92,7 @@ Says o d l = Understood o d l (sent (buildOf o room)) room
 
 -- EB on part P, four bytes
 pub quad-read : Says (asks 2 0xEB 0x0003FE [] (bytes 4)) chipP lentP
-unfolding kindAsked beyond overlong spreadAll builtOf buildOf bytewise shiftOf gatherFrom spelled entryOf mappedOf statusAllowed cr3Allowed cr4Allowed configurationsAllowed modeRegisterAllowed modeAllowed zeros registersM registersP volatileM volatileP identityM identityP validOf refusedAt offered sizedFor over
+unfolding kindAsked beyond overlong spreadAll builtOf buildOf bytewise shiftOf gatherFrom spelled entryOf mappedOf statusAllowed cr3Allowed cr4Allowed configurationsAllowed modeRegisterAllowed modeAllowed zeros mramRegisters psramRegisters mramVolatile psramVolatile mramIdentity psramIdentity validOf refusedAt offered sizedFor over
 quad-read =
     understood (asks 2 0xEB 0x0003FE [] (bytes 4)) room refl (record { opcode = lit< tt; written = refl }) chipP
     (record { part = refl; mode = refl; valid = refl; awake = refl; waits = λ e. untrue e; allows = refl }) lentP room
@@ -99,7 +100,7 @@ quad-read =
 
 -- 4B on part M: the wait is configuration 2's
 pub area-read : Says (asks 1 0x4B 0x000010 [] (bytes 3)) chipM lentM
-unfolding kindAsked beyond overlong spreadAll builtOf buildOf bytewise shiftOf gatherFrom spelled entryOf mappedOf statusAllowed cr3Allowed cr4Allowed configurationsAllowed modeRegisterAllowed modeAllowed zeros registersM registersP volatileM volatileP identityM identityP validOf refusedAt offered sizedFor over
+unfolding kindAsked beyond overlong spreadAll builtOf buildOf bytewise shiftOf gatherFrom spelled entryOf mappedOf statusAllowed cr3Allowed cr4Allowed configurationsAllowed modeRegisterAllowed modeAllowed zeros mramRegisters psramRegisters mramVolatile psramVolatile mramIdentity psramIdentity validOf refusedAt offered sizedFor over
 area-read =
     understood (asks 1 0x4B 0x000010 [] (bytes 3)) room refl (record { opcode = lit< tt; written = refl }) chipM
     (record { part = refl; mode = refl; valid = refl; awake = refl; waits = λ e. refl; allows = refl }) lentM room
@@ -107,7 +108,7 @@ area-read =
 
 -- 65 at status, eight bytes asked for
 pub mapped-read : Says (asks 1 0x65 0x000000 [] (bytes 8)) chipM lentM
-unfolding kindAsked beyond overlong spreadAll builtOf buildOf bytewise shiftOf gatherFrom spelled entryOf mappedOf statusAllowed cr3Allowed cr4Allowed configurationsAllowed modeRegisterAllowed modeAllowed zeros registersM registersP volatileM volatileP identityM identityP validOf refusedAt offered sizedFor over
+unfolding kindAsked beyond overlong spreadAll builtOf buildOf bytewise shiftOf gatherFrom spelled entryOf mappedOf statusAllowed cr3Allowed cr4Allowed configurationsAllowed modeRegisterAllowed modeAllowed zeros mramRegisters psramRegisters mramVolatile psramVolatile mramIdentity psramIdentity validOf refusedAt offered sizedFor over
 mapped-read =
     understood (asks 1 0x65 0x000000 [] (bytes 8)) room refl (record { opcode = lit< tt; written = refl }) chipM
     (record { part = refl; mode = refl; valid = refl; awake = refl; waits = λ e. untrue e; allows = refl }) lentM room
@@ -115,7 +116,7 @@ mapped-read =
 
 -- 02 on part M, three bytes from the last but one
 pub write : Says (asks 1 0x02 0x0003FE (1 ∷ 2 ∷ 3 ∷ []) (bytes 0)) chipM lentM
-unfolding kindAsked beyond overlong spreadAll builtOf buildOf bytewise shiftOf gatherFrom spelled entryOf mappedOf statusAllowed cr3Allowed cr4Allowed configurationsAllowed modeRegisterAllowed modeAllowed zeros registersM registersP volatileM volatileP identityM identityP validOf refusedAt offered sizedFor over
+unfolding kindAsked beyond overlong spreadAll builtOf buildOf bytewise shiftOf gatherFrom spelled entryOf mappedOf statusAllowed cr3Allowed cr4Allowed configurationsAllowed modeRegisterAllowed modeAllowed zeros mramRegisters psramRegisters mramVolatile psramVolatile mramIdentity psramIdentity validOf refusedAt offered sizedFor over
 write =
     understood (asks 1 0x02 0x0003FE (1 ∷ 2 ∷ 3 ∷ []) (bytes 0)) room refl (record { opcode = lit< tt; written = refl }) chipM
     (record { part = refl; mode = refl; valid = refl; awake = refl; waits = λ e. untrue e; allows = refl }) lentM room

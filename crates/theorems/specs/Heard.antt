@@ -27,7 +27,8 @@ use Rattle.paper.specs.Reading.{bytesIn, dataBytes}
 use Rattle.paper.specs.Driving.{along}
 use Rattle.paper.specs.Collecting.{isWires, seenIn, strange, collected, collectOf}
 use Rattle.paper.specs.Transaction.{over}
-use Rattle.theorems.specs.Driven.{blank, blank-length, along-length}
+use Rattle.theorems.specs.Driven.{blank, blank-length}
+use Rattle.paper.specs.Laws.{along-length}
 use Rattle.theorems.specs.Sent.{byte-read}
 
 -- so many bytes of f, from byte j on

@@ -2,9 +2,8 @@
 -- Assumes nothing.
 use mathlib.Core.Path.{_≡_}
 use Prim.Native.Nat.{ℕ, _<_, _≤_}
-use mathlib.Core.Bool.{Bool, true, false, not, _&&_}
+use mathlib.Core.Bool.{Bool, true, false}
 use mathlib.Core.List.{List}
-use lib.Dec.{eqb, leb}
 use lib.ListN.{length}
 use Rattle.units.specs.declared.Clocks.{Clocks}
 use Rattle.units.specs.declared.Wires.{Wires}
@@ -15,7 +14,7 @@ use Rattle.commands.specs.Plans.{laterWires, bodyOf, waitsByRegister}
 use Rattle.record.specs.declared.Answer.{Answer}
 use Rattle.record.specs.declared.Device.{Device}
 use Rattle.record.specs.Devices.{settingOf}
-use Rattle.record.specs.Answers.{answerNumber}
+use Rattle.record.specs.declared.Answer.the-variants.{Done, Size, Sample, State, Short, Unknown, Asleep, Address, Latch, Protected, Reserved, Long, Unarmed}
 use Rattle.values.specs.States.{validOf}
 use Rattle.paper.specs.InForce.{refusedAt}
 use Rattle.paper.specs.Reading.{first, many}
@@ -36,7 +35,7 @@ pub record Spelled (o : Order) : Type 0 where
 
 -- a device that the order is for
 pub record Meant (o : Order) (d : Device) : Type 0 where
-  pub part : d .part ≡ o .part
+  pub part : d .make .part ≡ o .part
   pub mode : d .volatile .mode ≡ o .mode
   pub valid : validOf d ≡ true
   pub awake : d .volatile .asleep ≡ false
@@ -58,13 +57,25 @@ sent t = first (t .number) (t .buffer)
 abbrev pub wiresIn : Order → Wires
 wiresIn o = laterWires (kindAsked o) (sentOn o)
 
-abbrev pub bodyIn : Order → Body
-bodyIn o = bodyOf (partOf (o .part)) (kindAsked o) (o .address)
+abbrev pub bodyMeant : Order → Body
+bodyMeant o = bodyOf (partOf (o .part)) (kindAsked o) (o .address)
 
 -- the bytes that an order's read drives, as the paper says
 abbrev pub bytesRead : Order → Device → Lent → List ℕ
-bytesRead o d l = bytesFrom (byteRead d (kindAsked o) (o .address) l) 0 (bytesDriven (bodyIn o) (o .wanted) .0)
+bytesRead o d l = bytesFrom (byteRead d (kindAsked o) (o .address) l) 0 (bytesDriven (bodyMeant o) (o .wanted) .0)
 
 -- an answer that finds no fault with the clocks: none of 1 to 7 and 11
 abbrev pub faultless : Answer → Bool
-faultless v = not (leb 1 (answerNumber v) && leb (answerNumber v) 7) && not (eqb (answerNumber v) 11)
+faultless Done = true
+faultless Size = false
+faultless Sample = false
+faultless State = false
+faultless Short = false
+faultless Unknown = false
+faultless Asleep = false
+faultless Address = false
+faultless Latch = true
+faultless Protected = true
+faultless Reserved = true
+faultless Long = false
+faultless Unarmed = true

@@ -17,9 +17,10 @@ use Rattle.units.specs.Units.{clocks, bytes, wiresOf, perByte, clocksOf}
 use Rattle.wires.specs.Bits.{gather}
 use Rattle.parts.specs.declared.Part.{Part}
 use Rattle.opcodes.specs.declared.Kind.{Kind}
+use Rattle.opcodes.specs.declared.Source.the-variants as From
 use Rattle.opcodes.specs.declared.Kind.the-variants as Kinds
 use Rattle.commands.specs.declared.plans.Body.{Body}
-use Rattle.commands.specs.Plans.{laterWires, addressOf, bodyOf}
+use Rattle.commands.specs.Plans.{laterWires, addressOf, bodyOf, reads, writes}
 use Rattle.record.specs.declared.Answer.the-variants.{Done}
 use Rattle.record.specs.declared.Device.{Device}
 use Rattle.record.specs.Devices.{settingOf}
@@ -30,11 +31,11 @@ use Rattle.paper.specs.Storing.{Lent}
 use Rattle.paper.specs.Transaction.{over, transactOf}
 use Rattle.paper.specs.Building.{Order, manyBytes, tooMany, sentOn, kindAsked, asked, addressed, builtOf, buildOf}
 use Rattle.paper.specs.Collecting.{collectOf}
-use Rattle.theorems.specs.Driven.{reads, blank-length}
+use Rattle.theorems.specs.Driven.{blank-length}
 use Rattle.theorems.specs.Sent.{byte-read}
 use Rattle.theorems.specs.Planned.{asked-same}
-use Rattle.theorems.specs.Built.{writes, bytesDriven, shown-all}
-use Rattle.theorems.specs.Meant.{Spelled, Meant, Lendable, sent, wiresIn, bodyIn, bytesRead, faultless}
+use Rattle.theorems.specs.Built.{bytesDriven, shown-all}
+use Rattle.theorems.specs.Meant.{Spelled, Meant, Lendable, sent, wiresIn, bodyMeant, bytesRead, faultless}
 use Rattle.theorems.specs.Answered.{no-refusal, sent-is, suits, carried-data, read-so, no-early, read-done, heard-so}
 
 -- ---- the statement
@@ -43,17 +44,17 @@ pub record Understood (o : Order) (d : Device) (l : Lent) (xs out : List ℕ) : 
   pub opcode : gather (sentOn o) (partsOf (settingOf d) xs .commandPart) ≡ o .opcode
   pub kind : partsOf (settingOf d) xs .kind ≡ kindAsked o
   pub address : addressed (addressOf (kindAsked o)) ≡ true → partsOf (settingOf d) xs .address ≡ o .address
-  pub written : writes (bodyIn o) ≡ true → dataBytes (wiresIn o) (partsOf (settingOf d) xs .dataPart) ≡ o .written
-  pub sentAll : writes (bodyIn o) ≡ true → many (partsOf (settingOf d) xs .dataPart) ≡ clocksOf (wiresIn o) (manyBytes (o .written))
-  pub wanted : reads (bodyIn o) ≡ true → many (partsOf (settingOf d) xs .dataPart) ≡ clocksOf (wiresIn o) (bytesDriven (bodyIn o) (o .wanted))
-  pub all : reads (bodyIn o) ≡ true → (kindAsked o ≡ Kinds.ReadAny → ⊥) → bytesDriven (bodyIn o) (o .wanted) ≡ o .wanted
+  pub written : writes (bodyMeant o) ≡ true → dataBytes (wiresIn o) (partsOf (settingOf d) xs .dataPart) ≡ o .written
+  pub sentAll : writes (bodyMeant o) ≡ true → many (partsOf (settingOf d) xs .dataPart) ≡ clocksOf (wiresIn o) (manyBytes (o .written))
+  pub wanted : reads (bodyMeant o) ≡ true → many (partsOf (settingOf d) xs .dataPart) ≡ clocksOf (wiresIn o) (bytesDriven (bodyMeant o) (o .wanted))
+  pub all : reads (bodyMeant o) ≡ true → (kindAsked o ≡ Kinds.Read From.Map → ⊥) → bytesDriven (bodyMeant o) (o .wanted) ≡ o .wanted
   -- the answer
   pub answer : faultless (transactOf d l xs out .answer) ≡ true
-  pub done : reads (bodyIn o) ≡ true → transactOf d l xs out .answer ≡ Done
+  pub done : reads (bodyMeant o) ≡ true → transactOf d l xs out .answer ≡ Done
   -- what comes back
-  pub heard : reads (bodyIn o) ≡ true → (buffer : List ℕ) → bytesDriven (bodyIn o) (o .wanted) .0 ≤ length buffer
+  pub heard : reads (bodyMeant o) ≡ true → (buffer : List ℕ) → bytesDriven (bodyMeant o) (o .wanted) .0 ≤ length buffer
       → collectOf (wiresOf (wiresIn o)) (first (many xs) (transactOf d l xs out .output)) buffer
-      ≡ record { answer = Done; number = bytesDriven (bodyIn o) (o .wanted); buffer = over (bytesRead o d l) buffer }
+      ≡ record { answer = Done; number = bytesDriven (bodyMeant o) (o .wanted); buffer = over (bytesRead o d l) buffer }
 
 -- ---- the words of the order are those of the device
 module _ (o : Order) (room : List ℕ) (done : buildOf o room .answer ≡ Done) (sp : Spelled o) (d : Device) (m : Meant o d) where
@@ -69,7 +70,7 @@ module _ (o : Order) (room : List ℕ) (done : buildOf o room .answer ≡ Done) 
   abbrev v : Wires
   v = wiresFor s k
 
-  same-body : bodyIn o ≡ body
+  same-body : bodyMeant o ≡ body
   same-body = ap (λ (p : Part). bodyOf p k (o .address)) (sym (suits o room done sp d m .part))
 
   same-wires : wiresIn o ≡ v
@@ -96,8 +97,8 @@ module _ (o : Order) (room : List ℕ) (done : buildOf o room .answer ≡ Done) 
             rw (e₁, same-wires, same-body)
             (ap many (carries .wanted (is-read same-body e)) ∙ ap clocks (blank-length (bytesDriven body (o .wanted) .0 * perByte v)));
         all = λ e other.
-            shown-all (bodyIn o) (o .wanted) (manyBytes (o .written)) e
-            (ap (λ (b : Body). tooMany b (o .wanted) (manyBytes (o .written))) (sym (asked-same k (bodyIn o) other)) ∙ no-refusal o room done .1 .1 .1 .1 .0);
+            shown-all (bodyMeant o) (o .wanted) (manyBytes (o .written)) e
+            (ap (λ (b : Body). tooMany b (o .wanted) (manyBytes (o .written))) (sym (asked-same k (bodyMeant o) other)) ∙ no-refusal o room done .tooMany);
         answer = no-early o room done sp d m l out r;
         done = λ e. read-done o room done sp d m l out r (is-read same-body e);
         heard = λ e buffer h.

@@ -8,35 +8,35 @@ use mathlib.Core.List.{List}
 use lib.ListN.{length, getD, drop, drop-of-length-le}
 use lib.Seq.{drop-cons}
 use borrow.Author.Tests.{ne-eqb}
-use Rattle.parts.specs.declared.Part.{Part}
-use Rattle.parts.specs.declared.Part.the-variants.{M, P}
+use Rattle.parts.specs.declared.Family.{Family}
+use Rattle.parts.specs.declared.Family.the-variants.{Mram, Psram}
 use Rattle.values.specs.States.{modeAllowed, zeros}
 
--- both parts have modes 1 and 4, and none has any other than 1, 2 and 4
-module _ (p : Part) {mode : ℕ} where
-  pub mode-one : mode ≡ 1 → true ≡ modeAllowed p mode
+-- both families have modes 1 and 4, and none has any other than 1, 2 and 4
+module _ (f : Family) {mode : ℕ} where
+  pub mode-one : mode ≡ 1 → true ≡ modeAllowed f mode
   unfolding modeAllowed
-  mode-one e = by p
+  mode-one e = by f
     where
-      by : (q : Part) → true ≡ modeAllowed q mode
-      by M = rw e
-      by P = rw e
+      by : (q : Family) → true ≡ modeAllowed q mode
+      by Mram = rw e
+      by Psram = rw e
 
-  pub mode-four : mode ≡ 4 → true ≡ modeAllowed p mode
+  pub mode-four : mode ≡ 4 → true ≡ modeAllowed f mode
   unfolding modeAllowed
-  mode-four e = by p
+  mode-four e = by f
     where
-      by : (q : Part) → true ≡ modeAllowed q mode
-      by M = rw e
-      by P = rw e
+      by : (q : Family) → true ≡ modeAllowed q mode
+      by Mram = rw e
+      by Psram = rw e
 
-  pub mode-other : (mode ≡ 1 → ⊥) → (mode ≡ 2 → ⊥) → (mode ≡ 4 → ⊥) → false ≡ modeAllowed p mode
+  pub mode-other : (mode ≡ 1 → ⊥) → (mode ≡ 2 → ⊥) → (mode ≡ 4 → ⊥) → false ≡ modeAllowed f mode
   unfolding modeAllowed
-  mode-other a b d = by p
+  mode-other a b d = by f
     where
-      by : (q : Part) → false ≡ modeAllowed q mode
-      by M = rw (ne-eqb mode 1 a, ne-eqb mode 2 b, ne-eqb mode 4 d)
-      by P = rw (ne-eqb mode 1 a, ne-eqb mode 4 d)
+      by : (q : Family) → false ≡ modeAllowed q mode
+      by Mram = rw (ne-eqb mode 1 a, ne-eqb mode 2 b, ne-eqb mode 4 d)
+      by Psram = rw (ne-eqb mode 1 a, ne-eqb mode 4 d)
 
 -- a scan for a byte that is not 0: what is left of the list decides
 module _ (l : List ℕ) (i : ℕ) where

@@ -5,9 +5,9 @@
 ghost use mathlib.Core.Path.{_≡_};
 ghost use lib.ListN.{drop};
 ghost use Rattle.values.specs.Values.{statusAllowed, cr3Allowed, cr4Allowed, configurationsAllowed, modeRegisterAllowed, reservedOf};
-ghost use Rattle.values.specs.States.{modeAllowed, zeros, registersM, registersP, volatileM, volatileP, identityM, identityP, validFor, validOf};
-ghost use Rattle.parts.specs.declared.Part.the-variants.{M, P};
+ghost use Rattle.values.specs.States.{modeAllowed, zeros, mramRegisters, psramRegisters, mramVolatile, psramVolatile, mramIdentity, psramIdentity, mramValid, psramValid, validOf};
 use opcodes::Register;
+use parts::Family;
 use parts::Part;
 use record::Device;
 use record::Identities;
@@ -54,7 +54,7 @@ fn configurations_allowed(part: Part, cr1: u8, cr2: u8, cr3: u8, cr4: u8) -> boo
     cr4_allowed(cr4)
 }
 
-// Part P's mode register: bit 7, bits 4 to 2, and code 3 of the drive strength.
+// The PSRAM's mode register: bit 7, bits 4 to 2, and code 3 of the drive strength.
 fn mode_register_allowed(v: u8) -> bool
     ensures { λ r. ⌜ r ≡ modeRegisterAllowed v ⌝ }
 {
@@ -103,23 +103,23 @@ fn all_zero(a: [u8; 8], from: usize) -> bool
     true
 }
 
-// The bus modes of each part.
-pub fn mode_allowed(part: Part, mode: u8) -> bool
-    ensures { λ r. ⌜ r ≡ modeAllowed part mode ⌝ }
+// The bus modes of each family.
+pub fn mode_allowed(family: Family, mode: u8) -> bool
+    ensures { λ r. ⌜ r ≡ modeAllowed family mode ⌝ }
 {
     match mode {
         1 => true,
-        2 => match part {
-            Part::M => true,
-            Part::P => false,
+        2 => match family {
+            Family::Mram => true,
+            Family::Psram => false,
         },
         4 => true,
         _ => false,
     }
 }
 
-fn registers_m(r: Registers) -> bool
-    ensures { λ b. ⌜ b ≡ registersM r ⌝ }
+fn mram_registers(part: Part, r: Registers) -> bool
+    ensures { λ b. ⌜ b ≡ mramRegisters part r ⌝ }
 {
     if !status_allowed(r.status) {
         return false;
@@ -127,14 +127,14 @@ fn registers_m(r: Registers) -> bool
     if r.status / 2 % 2 != 0 {
         return false;
     }
-    if !configurations_allowed(Part::M, r.cr1, r.cr2, r.cr3, r.cr4) {
+    if !configurations_allowed(part, r.cr1, r.cr2, r.cr3, r.cr4) {
         return false;
     }
     r.mr0 == 0
 }
 
-fn registers_p(r: Registers) -> bool
-    ensures { λ b. ⌜ b ≡ registersP r ⌝ }
+fn psram_registers(r: Registers) -> bool
+    ensures { λ b. ⌜ b ≡ psramRegisters r ⌝ }
 {
     let others = [r.status, r.protection, r.cr1, r.cr2, r.cr3, r.cr4, 0, 0];
     if !all_zero(others, 0) {
@@ -143,17 +143,17 @@ fn registers_p(r: Registers) -> bool
     mode_register_allowed(r.mr0)
 }
 
-fn volatile_m(v: Volatile) -> bool
-    ensures { λ b. ⌜ b ≡ volatileM v ⌝ }
+fn mram_volatile(v: Volatile) -> bool
+    ensures { λ b. ⌜ b ≡ mramVolatile v ⌝ }
 {
     if v.toggle {
         return false;
     }
-    mode_allowed(Part::M, v.mode)
+    mode_allowed(Family::Mram, v.mode)
 }
 
-fn volatile_p(v: Volatile) -> bool
-    ensures { λ b. ⌜ b ≡ volatileP v ⌝ }
+fn psram_volatile(v: Volatile) -> bool
+    ensures { λ b. ⌜ b ≡ psramVolatile v ⌝ }
 {
     if v.latch {
         return false;
@@ -161,18 +161,18 @@ fn volatile_p(v: Volatile) -> bool
     if v.asleep {
         return false;
     }
-    mode_allowed(Part::P, v.mode)
+    mode_allowed(Family::Psram, v.mode)
 }
 
-fn identity_m(i: Identities) -> bool
-    ensures { λ b. ⌜ b ≡ identityM i ⌝ }
+fn mram_identity(i: Identities) -> bool
+    ensures { λ b. ⌜ b ≡ mramIdentity i ⌝ }
 {
     let device = i.device;
     all_zero(device, 4)
 }
 
-fn identity_p(i: Identities) -> bool
-    ensures { λ b. ⌜ b ≡ identityP i ⌝ }
+fn psram_identity(i: Identities) -> bool
+    ensures { λ b. ⌜ b ≡ psramIdentity i ⌝ }
 {
     let unique = i.unique;
     let serial = i.serial;
@@ -182,42 +182,43 @@ fn identity_p(i: Identities) -> bool
     all_zero(serial, 0)
 }
 
-fn valid_m(d: Device) -> bool
-    ensures { λ r. ⌜ r ≡ validFor M d ⌝ }
+fn mram_valid(part: Part, d: Device) -> bool
+    ensures { λ r. ⌜ r ≡ mramValid part d ⌝ }
 {
     let registers = d.registers;
     let volatile = d.volatile;
     let identity = d.identity;
-    if !registers_m(registers) {
+    if !mram_registers(part, registers) {
         return false;
     }
-    if !volatile_m(volatile) {
+    if !mram_volatile(volatile) {
         return false;
     }
-    identity_m(identity)
+    mram_identity(identity)
 }
 
-fn valid_p(d: Device) -> bool
-    ensures { λ r. ⌜ r ≡ validFor P d ⌝ }
+fn psram_valid(d: Device) -> bool
+    ensures { λ r. ⌜ r ≡ psramValid d ⌝ }
 {
     let registers = d.registers;
     let volatile = d.volatile;
     let identity = d.identity;
-    if !registers_p(registers) {
+    if !psram_registers(registers) {
         return false;
     }
-    if !volatile_p(volatile) {
+    if !psram_volatile(volatile) {
         return false;
     }
-    identity_p(identity)
+    psram_identity(identity)
 }
 
-// The state check: whether every field of the record is in the range that its part gives it.
+// The state check: whether every field of the record is in the range that its family and part give it.
 pub fn valid(d: Device) -> bool
     ensures { λ r. ⌜ r ≡ validOf d ⌝ }
 {
-    match Part::of(d.part) {
-        Part::M => valid_m(d),
-        Part::P => valid_p(d),
+    let part = Part::of(d.make.part);
+    match part.family() {
+        Family::Mram => mram_valid(part, d),
+        Family::Psram => psram_valid(d),
     }
 }

@@ -8,23 +8,9 @@ pub bytes-sent-spec : {M : Type 1} → statement M
 bytes-sent-spec =
     tie.close
     (tie.spec
-    -- enum-told
-    (λ c. search needs)
-    -- enum-told-2
-    (λ c. search needs)
-    -- enum-told-3
-    (λ c. search needs)
-    -- enum-told-4
-    (λ c. search needs)
-    -- enum-told-5
-    (λ c. search needs)
+    -- enum-told, enum-told-2, enum-told-3, enum-told-4, enum-told-5
+    (λ c. search needs) (λ c. search needs) (λ c. search needs) (λ c. search needs) (λ c. search needs)
     -- returns
     (λ c. rw (c .enum-told .given .1))
-    -- returns-2
-    (λ c. search needs)
-    -- returns-3
-    (λ c. search needs)
-    -- returns-4
-    (λ c. search needs)
-    -- returns-5
-    (λ c. search needs))
+    -- returns-2, returns-3, returns-4, returns-5
+    (λ c. search needs) (λ c. search needs) (λ c. search needs) (λ c. search needs))

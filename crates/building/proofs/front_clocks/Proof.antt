@@ -12,16 +12,8 @@ unfolding frontOf
 front-clocks-spec =
     tie.close
     (tie.spec
-    -- bytes-to-clocks-requires
-    (λ c κs. search needs)
-    -- address-of-requires
-    (λ c κs. tt)
-    -- later-wires-requires
-    (λ c κs. tt)
-    -- address-length-requires
-    (λ c κs. tt)
-    -- wait-of-requires
-    (λ c κs. tt)
+    -- bytes-to-clocks-requires, address-of-requires, later-wires-requires, address-length-requires, wait-of-requires
+    (λ c κs. search needs) (λ c κs. tt) (λ c κs. tt) (λ c κs. tt) (λ c κs. tt)
     -- add-t10
     (λ c. rw (c .before .before .before .address-length .ensures, c .before .before .before .before .before .address-of .ensures, c .before .before .before .before .later-wires .ensures, c .before .before .before .before .before .before .bytes-to-clocks .ensures) (omega (arith, front-le (c .before .before .before .before .before .before .before .args .k) (c .before .before .before .before .before .before .before .args .w) (c .before .before .before .before .before .before .before .args .cr2))))
     -- add-t11

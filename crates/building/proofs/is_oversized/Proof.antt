@@ -12,20 +12,12 @@ pub is-oversized-spec : {M : Type 1} → statement M
 is-oversized-spec =
     tie.close
     (tie.spec
-    -- body-asked-requires
-    (λ c κs. tt)
-    -- bytes-sent-requires
-    (λ c κs. tt)
+    -- body-asked-requires, bytes-sent-requires
+    (λ c κs. tt) (λ c κs. tt)
     -- returns
     (λ c. rw (data-over (orderAs (c .before .before .before .before .before .before .before .args .o) (c .before .before .before .before .before .before .before .args .written .now)) (c .before .before .before .before .before .before .before .args .k) (rw (c .before .before .before .body-asked .ensures) at (c .before .before .bytes-sent .ensures)) (c .if1 .taken)))
-    -- mode-wires-requires
-    (λ c κs. tt)
-    -- front-clocks-requires
-    (λ c κs. tt)
-    -- later-wires-requires
-    (λ c κs. tt)
-    -- bytes-to-clocks-requires
-    (λ c κs. search needs)
+    -- mode-wires-requires, front-clocks-requires, later-wires-requires, bytes-to-clocks-requires
+    (λ c κs. tt) (λ c κs. tt) (λ c κs. tt) (λ c κs. search needs)
     -- add-t11
     (λ c. rw (c .before .before .bytes-to-clocks .ensures, c .before .before .before .before .front-clocks .ensures) (omega (arith, front-le (c .before .before .before .before .before .before .before .before .before .before .before .before .before .args .k) (c .before .before .before .before .before .mode-wires .result) (c .before .before .before .before .before .before .before .before .before .before .before .before .before .args .o .cr2), clocks-few (c .before .before .before .later-wires .result) _ (c .before .before .before .before .before .before .if1 .left))))
     -- is-over-requires

@@ -10,21 +10,7 @@ pub put-built-spec : {M : Type 1} → statement M
 put-built-spec =
     tie.close
     (tie.spec
-    -- mode-wires-requires
-    (λ c κs. tt)
-    -- later-wires-requires
-    (λ c κs. tt)
-    -- address-of-requires
-    (λ c κs. tt)
-    -- address-length-requires
-    (λ c κs. tt)
-    -- put-byte-requires
-    (λ c κs. tt)
-    -- put-number-requires
-    (λ c κs. tt)
-    -- put-rest-requires
-    (λ c κs. tt)
-    -- same-length
-    (λ c. search needs)
+    -- mode-wires-requires, later-wires-requires, address-of-requires, address-length-requires, put-byte-requires, put-number-requires, put-rest-requires, same-length
+    (λ c κs. tt) (λ c κs. tt) (λ c κs. tt) (λ c κs. tt) (λ c κs. tt) (λ c κs. tt) (λ c κs. tt) (λ c. search needs)
     -- returns
     (λ c. built-put (orderAs (c .before .before .before .before .before .before .before .before .before .before .before .before .before .before .before .before .before .before .args .o) (c .before .before .before .before .before .before .before .before .before .before .before .before .before .before .before .before .before .before .args .written .now)) (c .before .before .before .before .before .before .before .before .before .before .before .before .before .before .before .before .before .before .args .k) _ (rw (c .before .before .before .before .before .before .before .before .before .before .before .before .before .before .before .mode-wires .ensures) at (c .before .before .before .before .before .before .before .before .before .before .put-byte .ensures)) (rw (c .before .before .before .before .before .before .before .before .before .before .before .before .address-length .ensures, c .before .before .before .before .before .before .before .before .before .before .before .before .before .address-of .ensures, c .before .before .before .before .before .before .before .before .before .before .before .before .before .before .later-wires .ensures, c .before .before .before .before .before .before .before .before .before .before .before .before .before .before .before .mode-wires .ensures) at (c .before .before .before .before .before .before .put-number .ensures)) (rw (c .before .before .before .before .before .before .before .before .before .before .before .before .before .before .before .mode-wires .ensures) at (c .before .before .put-rest .ensures))))

@@ -10,24 +10,8 @@ unfolding putsOf
 put-data-spec =
     tie.close
     (tie.spec
-    -- enum-told
-    (λ c. search needs)
-    -- enum-told-2
-    (λ c. search needs)
-    -- put-wanted-requires
-    (λ c κs. tt)
-    -- enum-told-3
-    (λ c. search needs)
-    -- put-wanted-requires-2
-    (λ c κs. tt)
-    -- enum-told-4
-    (λ c. search needs)
-    -- put-written-requires
-    (λ c κs. tt)
-    -- enum-told-5
-    (λ c. search needs)
-    -- put-written-requires-2
-    (λ c κs. tt)
+    -- enum-told, enum-told-2, put-wanted-requires, enum-told-3, put-wanted-requires-2, enum-told-4, put-written-requires, enum-told-5, put-written-requires-2
+    (λ c. search needs) (λ c. search needs) (λ c κs. tt) (λ c. search needs) (λ c κs. tt) (λ c. search needs) (λ c κs. tt) (λ c. search needs) (λ c κs. tt)
     -- returns
     (λ c. rw (c .enum-told .given .1))
     -- same-length

@@ -21,10 +21,8 @@ refusal-spec =
     (λ c κs. tt)
     -- returns-3
     (λ c. rw (← c .before .before .before .before .before .is-unknown .ensures, c .before .before .before .before .if1 .left, ← c .before .before .before .is-beyond .ensures, c .before .before .if2 .left, ← c .before .is-overlong-wait .ensures, c .if3 .taken))
-    -- body-asked-requires
-    (λ c κs. tt)
-    -- is-few-requires
-    (λ c κs. tt)
+    -- body-asked-requires, is-few-requires
+    (λ c κs. tt) (λ c κs. tt)
     -- returns-4
     (λ c. rw (← c .before .before .before .before .before .before .before .before .before .is-unknown .ensures, c .before .before .before .before .before .before .before .before .if1 .left, ← c .before .before .before .before .before .before .before .is-beyond .ensures, c .before .before .before .before .before .before .if2 .left, ← c .before .before .before .before .before .is-overlong-wait .ensures, c .before .before .before .before .if3 .left, ← c .before .before .body-asked .ensures, ← c .before .is-few .ensures, c .if4 .taken))
     -- is-many-requires

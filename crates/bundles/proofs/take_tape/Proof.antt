@@ -10,45 +10,9 @@ pub take-tape-spec : {M : Type 1} → statement M
 take-tape-spec =
     tie.close
     (tie.spec
-    -- slice-aggregate-read-full
-    (λ c. search needs)
-    -- read-full-requires
-    (λ c κs. tt)
-    -- took-requires
-    (λ c κs. tt)
-    -- returns
-    (λ c. tt)
-    -- took-requires-2
-    (λ c κs. tt)
-    -- returns-2
-    (λ c. tt)
-    -- array-read-number-of
-    (λ c. search needs)
-    -- array-read-number-of-2
-    (λ c. search needs)
-    -- array-read-number-of-3
-    (λ c. search needs)
-    -- array-read-number-of-4
-    (λ c. search needs)
-    -- number-of-requires
-    (λ c κs. tt)
-    -- cast-long
-    (λ c. search needs)
-    -- skipped-requires
-    (λ c κs. tt)
-    -- took-requires-3
-    (λ c κs. tt)
-    -- returns-3
-    (λ c. tt)
-    -- slice-relend-prefix-read-full
-    (λ c. search needs)
+    -- slice-aggregate-read-full, read-full-requires, took-requires, returns, took-requires-2, returns-2, array-read-number-of, array-read-number-of-2, array-read-number-of-3, array-read-number-of-4, number-of-requires, cast-long, skipped-requires, took-requires-3, returns-3, slice-relend-prefix-read-full
+    (λ c. search needs) (λ c κs. tt) (λ c κs. tt) (λ c. tt) (λ c κs. tt) (λ c. tt) (λ c. search needs) (λ c. search needs) (λ c. search needs) (λ c. search needs) (λ c κs. tt) (λ c. search needs) (λ c κs. tt) (λ c κs. tt) (λ c. tt) (λ c. search needs)
     -- slice-aggregate-read-full-2
     (λ c. sym (length-take-le _ _ (c .before .if3 .left)))
-    -- read-full-requires-2
-    (λ c κs. tt)
-    -- took-requires-4
-    (λ c κs. tt)
-    -- same-length
-    (λ c. search needs)
-    -- returns-4
-    (λ c. tt))
+    -- read-full-requires-2, took-requires-4, same-length, returns-4
+    (λ c κs. tt) (λ c κs. tt) (λ c. search needs) (λ c. tt))

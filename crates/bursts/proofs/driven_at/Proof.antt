@@ -8,20 +8,8 @@ pub driven-at-spec : {M : Type 1} → statement M
 driven-at-spec =
     tie.close
     (tie.spec
-    -- enum-told
-    (λ c. search needs)
-    -- enum-told-2
-    (λ c. search needs)
-    -- level-at-requires
-    (λ c κs. search needs)
-    -- enum-told-3
-    (λ c. search needs)
-    -- level-at-requires-2
-    (λ c κs. search needs)
-    -- enum-told-4
-    (λ c. search needs)
-    -- enum-told-5
-    (λ c. search needs)
+    -- enum-told, enum-told-2, level-at-requires, enum-told-3, level-at-requires-2, enum-told-4, enum-told-5
+    (λ c. search needs) (λ c. search needs) (λ c κs. search needs) (λ c. search needs) (λ c κs. search needs) (λ c. search needs) (λ c. search needs)
     -- returns
     (λ c. rw (c .enum-told .given .1))
     -- returns-2

@@ -10,9 +10,7 @@ pub get-spec : {M : Type 1} → statement M
 get-spec =
     tie.close
     (tie.spec
-    -- shared-slice-read-result
-    (λ c. search needs)
-    -- returns
-    (λ c. search needs)
+    -- shared-slice-read-result, returns
+    (λ c. search needs) (λ c. search needs)
     -- returns-2
     (λ c. sym (List·getD-eq-default (c .before .args .store .now) 0 (c .if1 .left))))

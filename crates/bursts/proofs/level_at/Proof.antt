@@ -11,17 +11,11 @@ unfolding levelAt
 level-at-spec =
     tie.close
     (tie.spec
-    -- setting-requires
-    (λ c κs. tt)
-    -- wires-for-requires
-    (λ c κs. tt)
-    -- clocks-to-bytes-requires
-    (λ c κs. tt)
+    -- setting-requires, wires-for-requires, clocks-to-bytes-requires
+    (λ c κs. tt) (λ c κs. tt) (λ c κs. tt)
     -- byte-read-requires
     (λ c κs. rw (c .clocks-to-bytes .ensures) (c .before .before .before .before .before .pre .0, le-trans (div-le-self (c .before .before .before .before .before .args .t .0) (perByte (c .before .wires-for .result))) (c .before .before .before .before .before .pre .1)))
-    -- group-requires
-    (λ c κs. tt)
-    -- level-requires
-    (λ c κs. tt)
+    -- group-requires, level-requires
+    (λ c κs. tt) (λ c κs. tt)
     -- returns
     (λ c. rw (c .level .ensures, c .before .group .ensures, c .before .before .byte-read .ensures, c .before .before .before .clocks-to-bytes .ensures, c .before .before .before .before .wires-for .ensures, c .before .before .before .before .before .setting .ensures)))

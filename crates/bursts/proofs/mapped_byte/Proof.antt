@@ -8,12 +8,8 @@ pub mapped-byte-spec : {M : Type 1} → statement M
 mapped-byte-spec =
     tie.close
     (tie.spec
-    -- enum-known-m
-    (λ c. search needs)
-    -- shown-byte-requires
-    (λ c κs. tt)
-    -- enum-told
-    (λ c. search needs)
+    -- enum-known-m, shown-byte-requires, enum-told
+    (λ c. search needs) (λ c κs. tt) (λ c. search needs)
     -- returns
     (λ c. rw (c .before .before .m .given .1, c .shown-byte .ensures))
     -- returns-2

@@ -10,11 +10,7 @@ pub put-spec : {M : Type 1} → statement M
 put-spec =
     tie.close
     (tie.spec
-    -- slice-write-store
-    (λ c. search needs)
-    -- same-length
-    (λ c. search needs)
-    -- returns
-    (λ c. search needs)
+    -- slice-write-store, same-length, returns
+    (λ c. search needs) (λ c. search needs) (λ c. search needs)
     -- returns-2
     (λ c. sym (set-out (c .before .args .store .now) (c .before .args .place) (c .before .args .b) (c .if1 .left))))

@@ -1,30 +1,20 @@
 -- `bursts::put_at` meets its contract: area or memory, and then the store.
 -- Assumes nothing.
-use Rattle.paper.specs.Storing.{putAt}
 use borrow.Author.Needs.{needs}
 use Rattle.bursts.proofs.put_at.Statement.{statement}
 use Rattle.bursts.proofs.put_at.Tie as tie
+use Rattle.paper.specs.Storing.{putAt}
 
 pub put-at-spec : {M : Type 1} → statement M
 unfolding putAt
 put-at-spec =
     tie.close
     (tie.spec
-    -- is-in-area-requires
-    (λ c κs. tt)
-    -- area-place-requires
-    (λ c κs. search needs)
-    -- put-requires
-    (λ c κs. tt)
-    -- same-length
-    (λ c. search needs)
+    -- is-into-area-requires, area-place-requires, put-requires, same-length
+    (λ c κs. tt) (λ c κs. search needs) (λ c κs. tt) (λ c. search needs)
     -- returns
-    (λ c. rw (← c .before .before .before .before .before .before .is-in-area .ensures, c .before .before .before .before .before .if1 .taken, c .before .before .put .ensures, c .before .before .before .area-place .ensures))
-    -- write-place-requires
-    (λ c κs. search needs)
-    -- put-requires-2
-    (λ c κs. tt)
-    -- same-length-2
-    (λ c. search needs)
+    (λ c. rw (← c .before .before .before .before .before .before .is-into-area .ensures, c .before .before .before .before .before .if1 .taken, c .before .before .put .ensures, c .before .before .before .area-place .ensures))
+    -- write-place-requires, put-requires-2, same-length-2
+    (λ c κs. search needs) (λ c κs. tt) (λ c. search needs)
     -- returns-2
-    (λ c. rw (← c .before .before .before .before .before .before .is-in-area .ensures, c .before .before .before .before .before .if1 .left, c .before .before .put2 .ensures, c .before .before .before .write-place .ensures)))
+    (λ c. rw (← c .before .before .before .before .before .before .is-into-area .ensures, c .before .before .before .before .before .if1 .left, c .before .before .put2 .ensures, c .before .before .before .write-place .ensures)))

@@ -8,15 +8,7 @@ pub tell-spec : {M : Type 1} → statement M
 tell-spec =
     tie.close
     (tie.spec
-    -- put-chip-requires
-    (λ c κs. search needs)
-    -- put-counts-requires
-    (λ c κs. tt)
-    -- answer-number-requires
-    (λ c κs. tt)
-    -- same-length
-    (λ c. search needs)
-    -- same-length-2
-    (λ c. search needs)
+    -- put-chip-requires, put-counts-requires, answer-number-requires, same-length, same-length-2
+    (λ c κs. search needs) (λ c κs. tt) (λ c κs. tt) (λ c. search needs) (λ c. search needs)
     -- returns
     (λ c. rw (c .answer-number .ensures, c .before .before .before .put-counts .ensures, c .before .before .before .before .before .before .before .put-chip .ensures)))

@@ -22,21 +22,7 @@ tondravik-fresh-m-spec =
     (λ c. rw (eq-eqb _ _ (c .before .before .before .if1 .left), ← c .before .before .is-offered .ensures, not-false (c .before .before .is-offered .result) (c .before .if2 .left), ne-eqb _ _ (c .if3 .taken)))
     -- returns-4
     (λ c. rw (eq-eqb _ _ (c .before .before .before .before .if1 .left), ← c .before .before .before .is-offered .ensures, not-false (c .before .before .before .is-offered .result) (c .before .before .if2 .left), eq-eqb _ _ (c .before .if3 .left), ne-eqb _ _ (c .if4 .taken)))
-    -- shared-slice-read-t11
-    (λ c. search needs)
-    -- shared-slice-read-t13
-    (λ c. search needs)
-    -- shared-slice-read-t15
-    (λ c. search needs)
-    -- shared-slice-read-t17
-    (λ c. search needs)
-    -- eight-at-requires
-    (λ c κs. search needs)
-    -- fresh-m-requires
-    (λ c κs. tt)
-    -- put-chip-requires
-    (λ c κs. search needs)
-    -- same-length
-    (λ c. search needs)
+    -- shared-slice-read-t11, shared-slice-read-t13, shared-slice-read-t15, shared-slice-read-t17, eight-at-requires, fresh-requires, put-chip-requires, same-length
+    (λ c. search needs) (λ c. search needs) (λ c. search needs) (λ c. search needs) (λ c κs. search needs) (λ c κs. tt) (λ c κs. search needs) (λ c. search needs)
     -- returns-5
-    (λ c. rw (eq-eqb _ _ (c .before .before .before .before .before .before .before .before .before .before .before .before .before .before .if1 .left), ← c .before .before .before .before .before .before .before .before .before .before .before .before .before .is-offered .ensures, not-false (c .before .before .before .before .before .before .before .before .before .before .before .before .before .is-offered .result) (c .before .before .before .before .before .before .before .before .before .before .before .before .if2 .left), eq-eqb _ _ (c .before .before .before .before .before .before .before .before .before .before .before .if3 .left), eq-eqb _ _ (c .before .before .before .before .before .before .before .before .before .before .if4 .left), c .before .before .put-chip .ensures, c .before .before .before .before .fresh-m .ensures, c .before .before .before .before .before .eight-at .ensures, eight-whole (c .before .before .before .before .before .before .before .before .before .before .before .before .before .before .before .before .before .before .args .unique .now) (c .before .before .before .before .before .before .before .before .before .before .if4 .left))))
+    (λ c. rw (eq-eqb _ _ (c .before .before .before .before .before .before .before .before .before .before .before .before .before .before .if1 .left), ← c .before .before .before .before .before .before .before .before .before .before .before .before .before .is-offered .ensures, not-false (c .before .before .before .before .before .before .before .before .before .before .before .before .before .is-offered .result) (c .before .before .before .before .before .before .before .before .before .before .before .before .if2 .left), eq-eqb _ _ (c .before .before .before .before .before .before .before .before .before .before .before .if3 .left), eq-eqb _ _ (c .before .before .before .before .before .before .before .before .before .before .if4 .left), c .before .before .put-chip .ensures, c .before .before .before .before .fresh .ensures, c .before .before .before .before .before .eight-at .ensures, eight-whole (c .before .before .before .before .before .before .before .before .before .before .before .before .before .before .before .before .before .before .args .unique .now) (c .before .before .before .before .before .before .before .before .before .before .if4 .left))))

@@ -20,13 +20,7 @@ tondravik-fresh-p-spec =
     (λ c. rw (eq-eqb _ _ (c .before .before .if1 .left), ← c .before .is-offered .ensures, not-true (c .before .is-offered .result) (c .if2 .taken)))
     -- returns-3
     (λ c. rw (eq-eqb _ _ (c .before .before .before .if1 .left), ← c .before .before .is-offered .ensures, not-false (c .before .before .is-offered .result) (c .before .if2 .left), ne-eqb _ _ (c .if3 .taken)))
-    -- eight-at-requires
-    (λ c κs. search needs)
-    -- fresh-p-requires
-    (λ c κs. tt)
-    -- put-chip-requires
-    (λ c κs. search needs)
-    -- same-length
-    (λ c. search needs)
+    -- eight-at-requires, fresh-requires, put-chip-requires, same-length
+    (λ c κs. search needs) (λ c κs. tt) (λ c κs. search needs) (λ c. search needs)
     -- returns-4
-    (λ c. rw (eq-eqb _ _ (c .before .before .before .before .before .before .before .before .before .if1 .left), ← c .before .before .before .before .before .before .before .before .is-offered .ensures, not-false (c .before .before .before .before .before .before .before .before .is-offered .result) (c .before .before .before .before .before .before .before .if2 .left), eq-eqb _ _ (c .before .before .before .before .before .before .if3 .left), c .before .before .put-chip .ensures, c .before .before .before .before .fresh-p .ensures, c .before .before .before .before .before .eight-at .ensures, eight-whole (c .before .before .before .before .before .before .before .before .before .before .before .before .args .device .now) (c .before .before .before .before .before .before .if3 .left))))
+    (λ c. rw (eq-eqb _ _ (c .before .before .before .before .before .before .before .before .before .if1 .left), ← c .before .before .before .before .before .before .before .before .is-offered .ensures, not-false (c .before .before .before .before .before .before .before .before .is-offered .result) (c .before .before .before .before .before .before .before .if2 .left), eq-eqb _ _ (c .before .before .before .before .before .before .if3 .left), c .before .before .put-chip .ensures, c .before .before .before .before .fresh .ensures, c .before .before .before .before .before .eight-at .ensures, eight-whole (c .before .before .before .before .before .before .before .before .before .before .before .before .args .device .now) (c .before .before .before .before .before .before .if3 .left))))

@@ -12,10 +12,8 @@ pub tondravik-power-cycle-spec : {M : Type 1} → statement M
 tondravik-power-cycle-spec =
     tie.close
     (tie.spec
-    -- is-chip-requires
-    (λ c κs. tt)
-    -- same-length
-    (λ c. search needs)
+    -- is-chip-requires, same-length
+    (λ c κs. tt) (λ c. search needs)
     -- returns
     (λ c. power-strange _ _ _ (sym (c .before .is-chip .ensures) ∙ not-true (c .before .is-chip .result) (c .if1 .taken)))
     -- chip-of-requires
@@ -24,11 +22,7 @@ tondravik-power-cycle-spec =
     (λ c κs. tt)
     -- put-chip-requires
     (λ c κs. chip-long _ (sym (c .before .before .before .before .before .before .before .before .before .is-chip .ensures) ∙ not-false (c .before .before .before .before .before .before .before .before .before .is-chip .result) (c .before .before .before .before .before .before .before .before .if1 .left)))
-    -- answer-number-requires
-    (λ c κs. tt)
-    -- same-length-2
-    (λ c. search needs)
-    -- same-length-3
-    (λ c. search needs)
+    -- answer-number-requires, same-length-2, same-length-3
+    (λ c κs. tt) (λ c. search needs) (λ c. search needs)
     -- returns-2
     (λ c. rw (c .answer-number .ensures, c .before .before .before .put-chip .ensures) (power-told _ _ _ (sym (c .before .before .before .before .before .before .before .before .before .before .before .before .before .is-chip .ensures) ∙ not-false (c .before .before .before .before .before .before .before .before .before .before .before .before .before .is-chip .result) (c .before .before .before .before .before .before .before .before .before .before .before .before .if1 .left)) _ _ _ (rw (c .before .before .before .before .before .before .before .before .before .before .chip-of .ensures) at (c .before .before .before .before .before .before .before .before .power-cycle .ensures)))))

@@ -14,16 +14,8 @@ unfolding transactIn
 tondravik-transact-spec =
     tie.close
     (tie.spec
-    -- is-chip-requires
-    (λ c κs. tt)
-    -- none-requires
-    (λ c κs. tt)
-    -- put-counts-requires
-    (λ c κs. tt)
-    -- same-length
-    (λ c. search needs)
-    -- same-length-2
-    (λ c. search needs)
+    -- is-chip-requires, none-requires, put-counts-requires, same-length, same-length-2
+    (λ c κs. tt) (λ c κs. tt) (λ c κs. tt) (λ c. search needs) (λ c. search needs)
     -- returns
     (λ c. rw (← c .before .before .before .before .before .before .is-chip .ensures, not-true (c .before .before .before .before .before .before .is-chip .result) (c .before .before .before .before .before .if1 .taken), c .before .before .put-counts .ensures, c .before .before .before .before .none .ensures))
     -- same-length-3
@@ -36,15 +28,7 @@ tondravik-transact-spec =
     (λ c κs. tt)
     -- tell-requires
     (λ c κs. chip-long _ (sym (c .before .before .before .before .before .before .before .before .before .before .before .before .before .before .before .before .is-chip .ensures) ∙ not-false (c .before .before .before .before .before .before .before .before .before .before .before .before .before .before .before .before .is-chip .result) (c .before .before .before .before .before .before .before .before .before .before .before .before .before .before .before .if1 .left)))
-    -- same-length-4
-    (λ c. search needs)
-    -- same-length-5
-    (λ c. search needs)
-    -- same-length-6
-    (λ c. search needs)
-    -- same-length-7
-    (λ c. search needs)
-    -- same-length-8
-    (λ c. search needs)
+    -- same-length-4, same-length-5, same-length-6, same-length-7, same-length-8
+    (λ c. search needs) (λ c. search needs) (λ c. search needs) (λ c. search needs) (λ c. search needs)
     -- returns-3
     (λ c. transact-told _ _ _ (sym (c .before .before .before .before .before .before .before .before .before .before .before .before .before .before .before .before .before .before .before .before .before .is-chip .ensures) ∙ not-false (c .before .before .before .before .before .before .before .before .before .before .before .before .before .before .before .before .before .before .before .before .before .is-chip .result) (c .before .before .before .before .before .before .before .before .before .before .before .before .before .before .before .before .before .before .before .before .if1 .left)) _ _ _ _ _ _ _ (c .before .before .before .before .before .before .before .before .before .before .before .before .before .before .before .before .before .before .before .if2 .left) (rw (c .before .before .before .before .before .before .before .before .before .before .before .before .before .before .before .before .before .chip-of .ensures) at (c .before .before .before .before .before .before .before .before .before .before .before .before .before .transact .ensures)) (c .before .before .before .before .tell .ensures)))

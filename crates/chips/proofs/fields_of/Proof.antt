@@ -7,13 +7,7 @@ pub fields-of-spec : {M : Type 1} → statement M
 fields-of-spec =
     tie.close
     (tie.spec
-    -- bit-of-requires
-    (λ c κs. tt)
-    -- bit-of-requires-2
-    (λ c κs. tt)
-    -- bit-of-requires-3
-    (λ c κs. tt)
-    -- bit-of-requires-4
-    (λ c κs. tt)
+    -- bit-of-requires, bit-of-requires-2, bit-of-requires-3, bit-of-requires-4
+    (λ c κs. tt) (λ c κs. tt) (λ c κs. tt) (λ c κs. tt)
     -- returns
     (λ c. rw (c .bit-of4 .ensures, c .before .bit-of3 .ensures, c .before .before .bit-of2 .ensures, c .before .before .before .bit-of .ensures)))

@@ -8,11 +8,7 @@ pub identities-at-spec : {M : Type 1} → statement M
 identities-at-spec =
     tie.close
     (tie.spec
-    -- eight-at-requires
-    (λ c κs. search needs)
-    -- eight-at-requires-2
-    (λ c κs. search needs)
-    -- eight-at-requires-3
-    (λ c κs. search needs)
+    -- eight-at-requires, eight-at-requires-2, eight-at-requires-3
+    (λ c κs. search needs) (λ c κs. search needs) (λ c κs. search needs)
     -- returns
     (λ c. cc (c .eight-at3 .ensures, c .before .eight-at2 .ensures, c .before .before .eight-at .ensures)))

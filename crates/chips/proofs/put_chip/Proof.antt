@@ -9,19 +9,7 @@ pub put-chip-spec : {M : Type 1} → statement M
 put-chip-spec =
     tie.close
     (tie.spec
-    -- fields-of-requires
-    (λ c κs. tt)
-    -- slice-aggregate-put-all
-    (λ c. search needs)
-    -- put-all-requires
-    (λ c κs. tt)
-    -- put-eight-requires
-    (λ c κs. tt)
-    -- put-eight-requires-2
-    (λ c κs. tt)
-    -- put-eight-requires-3
-    (λ c κs. tt)
-    -- same-length
-    (λ c. search needs)
+    -- fields-of-requires, slice-aggregate-put-all, put-all-requires, put-eight-requires, put-eight-requires-2, put-eight-requires-3, same-length
+    (λ c κs. tt) (λ c. search needs) (λ c κs. tt) (λ c κs. tt) (λ c κs. tt) (λ c κs. tt) (λ c. search needs)
     -- returns
     (λ c. put-chip-is (c .before .before .before .before .before .before .before .before .before .before .before .before .before .before .before .before .before .before .before .before .before .before .args .d) (record { device = c .before .before .before .before .before .before .before .before .before .before .put-eight .ensures .1; unique = c .before .before .before .before .before .before .put-eight2 .ensures .1; serial = c .before .before .put-eight3 .ensures .1 }) (c .before .before .before .before .before .before .before .before .before .before .before .before .before .before .before .before .before .before .before .before .before .before .args .chip .now) (c .before .before .before .before .before .before .before .before .before .before .before .before .before .before .before .before .before .before .before .before .before .before .pre) (rw (c .before .before .before .before .before .before .before .before .before .before .before .before .before .before .before .before .before .before .before .before .fields-of .ensures) at (c .before .before .before .before .before .before .before .before .before .before .before .before .before .before .put-all .ensures)) (c .before .before .before .before .before .before .before .before .before .before .put-eight .ensures .0) (c .before .before .before .before .before .before .put-eight2 .ensures .0) (c .before .before .put-eight3 .ensures .0)))

@@ -14,14 +14,8 @@ put-counts-spec =
     (tie.spec
     -- returns
     (λ c. rw (ne-eqb _ _ (c .if1 .taken)))
-    -- slice-write-words
-    (λ c. search needs)
-    -- slice-write-words-2
-    (λ c. search needs)
-    -- slice-write-words-3
-    (λ c. search needs)
-    -- slice-write-words-4
-    (λ c. search needs)
+    -- slice-write-words, slice-write-words-2, slice-write-words-3, slice-write-words-4
+    (λ c. search needs) (λ c. search needs) (λ c. search needs) (λ c. search needs)
     -- slice-write-words-5
     (λ c. five-last (c .before .args .words .now) _ _ _ _ (c .if1 .left))
     -- same-length

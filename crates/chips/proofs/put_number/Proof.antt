@@ -14,9 +14,7 @@ put-number-spec =
     (tie.spec
     -- returns
     (λ c. rw (ne-eqb _ _ (c .if1 .taken)))
-    -- slice-write-words
-    (λ c. search needs)
-    -- same-length
-    (λ c. search needs)
+    -- slice-write-words, same-length
+    (λ c. search needs) (λ c. search needs)
     -- returns-2
     (λ c. rw (eq-eqb _ _ (c .if1 .left)) (one-set (c .before .args .words .now) (c .before .args .n) (c .if1 .left))))

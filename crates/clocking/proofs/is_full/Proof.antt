@@ -8,22 +8,8 @@ pub is-full-spec : {M : Type 1} → statement M
 is-full-spec =
     tie.close
     (tie.spec
-    -- enum-told
-    (λ c. search needs)
-    -- enum-known-b
-    (λ c. search needs)
-    -- clocks-to-bytes-requires
-    (λ c κs. tt)
-    -- enum-told-2
-    (λ c. search needs)
-    -- enum-known-b-2
-    (λ c. search needs)
-    -- clocks-to-bytes-requires-2
-    (λ c κs. tt)
-    -- enum-told-3
-    (λ c. search needs)
-    -- returns
-    (λ c. search needs)
+    -- enum-told, enum-known-b, clocks-to-bytes-requires, enum-told-2, enum-known-b-2, clocks-to-bytes-requires-2, enum-told-3, returns
+    (λ c. search needs) (λ c. search needs) (λ c κs. tt) (λ c. search needs) (λ c. search needs) (λ c κs. tt) (λ c. search needs) (λ c. search needs)
     -- returns-2
     (λ c. rw (c .before .before .before .before .b .given .1, c .before .before .clocks-to-bytes .ensures))
     -- returns-3

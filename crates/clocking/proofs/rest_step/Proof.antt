@@ -8,7 +8,7 @@ pub rest-step-spec : {M : Type 1} → statement M
 rest-step-spec =
     tie.close
     (tie.spec
-    -- rest-tick-requires
-    (λ c κs. search needs)
+    -- rest-tick-requires, counting-requires, onward-requires
+    (λ c κs. search needs) (λ c κs. tt) (λ c κs. tt)
     -- returns
-    (λ c. rw (c .rest-tick .ensures)))
+    (λ c. rw (c .onward .ensures, c .before .counting .ensures, c .before .before .rest-tick .ensures)))

@@ -9,9 +9,7 @@ pub bytes-driven-spec : {M : Type 1} → statement M
 bytes-driven-spec =
     tie.close
     (tie.spec
-    -- driven-clocks-requires
-    (λ c κs. tt)
-    -- clocks-to-bytes-requires
-    (λ c κs. tt)
+    -- driven-clocks-requires, clocks-to-bytes-requires
+    (λ c κs. tt) (λ c κs. tt)
     -- returns
     (λ c. c .clocks-to-bytes .ensures ∙ collected-many _ _ (c .before .driven-clocks .ensures)))

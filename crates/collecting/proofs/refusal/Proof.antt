@@ -14,10 +14,8 @@ refusal-spec =
     (λ c κs. tt)
     -- returns
     (λ c. rw (← c .before .is-wires .ensures, not-true (c .before .is-wires .result) (c .if1 .taken)))
-    -- mode-wires-requires
-    (λ c κs. tt)
-    -- is-strange-requires
-    (λ c κs. tt)
+    -- mode-wires-requires, is-strange-requires
+    (λ c κs. tt) (λ c κs. tt)
     -- returns-2
     (λ c. rw (← c .before .before .before .before .is-wires .ensures, not-false (c .before .before .before .before .is-wires .result) (c .before .before .before .if1 .left), ← c .before .before .mode-wires .ensures, ← c .before .is-strange .ensures, c .if2 .taken))
     -- bytes-driven-requires

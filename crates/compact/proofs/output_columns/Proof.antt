@@ -10,27 +10,9 @@ pub output-columns-spec : {M : Type 1} → statement M
 output-columns-spec =
     tie.close
     (tie.spec
-    -- digest-column-requires
-    (λ c κs. tt)
-    -- is-refusal-requires
-    (λ c κs. tt)
-    -- slice-aggregate-put-all
-    (λ c. search needs)
-    -- put-all-requires
-    (λ c κs. tt)
-    -- same-length
-    (λ c. search needs)
-    -- returns
-    (λ c. tt)
-    -- same-length-2
-    (λ c. search needs)
-    -- returns-2
-    (λ c. tt)
+    -- digest-column-requires, is-refusal-requires, slice-aggregate-put-all, put-all-requires, same-length, returns, same-length-2, returns-2
+    (λ c κs. tt) (λ c κs. tt) (λ c. search needs) (λ c κs. tt) (λ c. search needs) (λ c. tt) (λ c. search needs) (λ c. tt)
     -- slice-aggregate-driven
     (λ c. sym (length-take-le _ _ (c .before .before .if2 .left)))
-    -- driven-requires
-    (λ c κs. tt)
-    -- same-length-3
-    (λ c. search needs)
-    -- returns-3
-    (λ c. tt))
+    -- driven-requires, same-length-3, returns-3
+    (λ c κs. tt) (λ c. search needs) (λ c. tt))

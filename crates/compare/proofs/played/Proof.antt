@@ -9,35 +9,13 @@ pub played-spec : {M : Type 1} → statement M
 played-spec =
     tie.close
     (tie.spec
-    -- fill-requires
-    (λ c κs. tt)
-    -- advance-requires
-    (λ c κs. search needs)
-    -- verdict-requires
-    (λ c κs. tt)
-    -- stopped-requires
-    (λ c κs. tt)
-    -- same-length
-    (λ c. search needs)
-    -- same-length-2
-    (λ c. search needs)
+    -- fill-requires, advance-requires, verdict-requires, stopped-requires, same-length, same-length-2
+    (λ c κs. tt) (λ c κs. search needs) (λ c κs. tt) (λ c κs. tt) (λ c. search needs) (λ c. search needs)
     -- same-length-3
     (λ c. c .before .before .before .before .before .before .before .before .before .before .before .before .before .before .advance .kept .1 .1 .1 .1 .0 ∙ c .before .before .before .before .before .before .before .before .before .before .before .before .before .before .before .before .before .before .before .before .fill .kept .0)
-    -- same-length-4
-    (λ c. search needs)
-    -- returns
-    (λ c. tt)
-    -- record-line-requires
-    (λ c κs. tt)
-    -- flush-full-requires
-    (λ c κs. tt)
-    -- same-length-5
-    (λ c. search needs)
-    -- same-length-6
-    (λ c. search needs)
+    -- same-length-4, returns, record-line-requires, flush-full-requires, same-length-5, same-length-6
+    (λ c. search needs) (λ c. tt) (λ c κs. tt) (λ c κs. tt) (λ c. search needs) (λ c. search needs)
     -- same-length-7
     (λ c. c .before .before .before .before .before .before .before .before .before .before .before .before .before .before .before .before .before .before .advance .kept .1 .1 .1 .1 .0 ∙ c .before .before .before .before .before .before .before .before .before .before .before .before .before .before .before .before .before .before .before .before .before .before .before .before .fill .kept .0)
-    -- same-length-8
-    (λ c. search needs)
-    -- returns-2
-    (λ c. tt))
+    -- same-length-8, returns-2
+    (λ c. search needs) (λ c. tt))

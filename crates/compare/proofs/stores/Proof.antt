@@ -10,19 +10,13 @@ pub stores-spec : {M : Type 1} → statement M
 stores-spec =
     tie.close
     (tie.spec
-    -- returns
-    (λ c. tt)
-    -- returns-2
-    (λ c. tt)
+    -- returns, returns-2
+    (λ c. tt) (λ c. tt)
     -- slice-aggregate-digest-column
     (λ c. sym (length-take-le _ _ (c .before .before .before .if1 .left)))
     -- digest-column-requires
     (λ c κs. tt)
     -- slice-aggregate-digest-column-2
     (λ c. sym (length-take-le _ _ (c .before .before .before .before .before .before .before .if2 .left)))
-    -- digest-column-requires-2
-    (λ c κs. tt)
-    -- same-length
-    (λ c. search needs)
-    -- returns-3
-    (λ c. tt))
+    -- digest-column-requires-2, same-length, returns-3
+    (λ c κs. tt) (λ c. search needs) (λ c. tt))

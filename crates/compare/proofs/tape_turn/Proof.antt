@@ -10,49 +10,9 @@ pub tape-turn-spec : {M : Type 1} → statement M
 tape-turn-spec =
     tie.close
     (tie.spec
-    -- take-tape-requires
-    (λ c κs. tt)
-    -- cut-requires
-    (λ c κs. tt)
-    -- same-length
-    (λ c. search needs)
-    -- same-length-2
-    (λ c. search needs)
-    -- returns
-    (λ c. tt)
-    -- stopped-requires
-    (λ c κs. tt)
-    -- same-length-3
-    (λ c. search needs)
-    -- returns-2
-    (λ c. tt)
-    -- tape-line-requires
-    (λ c κs. tt)
-    -- slice-aggregate-last-line
-    (λ c. search needs)
-    -- last-line-requires
-    (λ c κs. tt)
-    -- same-length-4
-    (λ c. search needs)
-    -- same-length-5
-    (λ c. search needs)
-    -- returns-3
-    (λ c. tt)
-    -- slice-reshare-prefix-run
-    (λ c. search needs)
+    -- take-tape-requires, cut-requires, same-length, same-length-2, returns, stopped-requires, same-length-3, returns-2, tape-line-requires, slice-aggregate-last-line, last-line-requires, same-length-4, same-length-5, returns-3, slice-reshare-prefix-run
+    (λ c κs. tt) (λ c κs. tt) (λ c. search needs) (λ c. search needs) (λ c. tt) (λ c κs. tt) (λ c. search needs) (λ c. tt) (λ c κs. tt) (λ c. search needs) (λ c κs. tt) (λ c. search needs) (λ c. search needs) (λ c. tt) (λ c. search needs)
     -- slice-aggregate-run
     (λ c. sym (length-take-le _ _ (c .before .if3 .left)))
-    -- run-requires
-    (λ c κs. tt)
-    -- same-length-6
-    (λ c. search needs)
-    -- same-length-7
-    (λ c. search needs)
-    -- same-length-8
-    (λ c. search needs)
-    -- same-length-9
-    (λ c. search needs)
-    -- same-length-10
-    (λ c. search needs)
-    -- returns-4
-    (λ c. tt))
+    -- run-requires, same-length-6, same-length-7, same-length-8, same-length-9, same-length-10, returns-4
+    (λ c κs. tt) (λ c. search needs) (λ c. search needs) (λ c. search needs) (λ c. search needs) (λ c. search needs) (λ c. tt))

@@ -10,35 +10,9 @@ pub turn-spec : {M : Type 1} → statement M
 turn-spec =
     tie.close
     (tie.spec
-    -- samples-at-requires
-    (λ c κs. tt)
-    -- verdict-bad-requires
-    (λ c κs. tt)
-    -- stopped-requires
-    (λ c κs. tt)
-    -- same-length
-    (λ c. search needs)
-    -- returns
-    (λ c. tt)
-    -- add-room
-    (λ c. search needs)
-    -- stopped-requires-2
-    (λ c κs. tt)
-    -- returns-2
-    (λ c. tt)
-    -- slice-relend-prefix-played
-    (λ c. search needs)
+    -- samples-at-requires, verdict-bad-requires, stopped-requires, same-length, returns, add-room, stopped-requires-2, returns-2, slice-relend-prefix-played
+    (λ c κs. tt) (λ c κs. tt) (λ c κs. tt) (λ c. search needs) (λ c. tt) (λ c. search needs) (λ c κs. tt) (λ c. tt) (λ c. search needs)
     -- slice-aggregate-played
     (λ c. sym (length-take-le _ _ (c .before .before .before .if2 .left)))
-    -- played-requires
-    (λ c κs. tt)
-    -- same-length-2
-    (λ c. search needs)
-    -- same-length-3
-    (λ c. search needs)
-    -- same-length-4
-    (λ c. search needs)
-    -- same-length-5
-    (λ c. search needs)
-    -- returns-3
-    (λ c. tt))
+    -- played-requires, same-length-2, same-length-3, same-length-4, same-length-5, returns-3
+    (λ c κs. tt) (λ c. search needs) (λ c. search needs) (λ c. search needs) (λ c. search needs) (λ c. tt))

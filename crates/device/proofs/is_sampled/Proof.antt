@@ -15,37 +15,23 @@ Inv-loop samples i₀ i = sampled (drop i samples) ≡ sampled samples
 abbrev μ-loop : tie.MeasureT-loop
 μ-loop samples i₀ i = length samples - i
 
-loop-holds : tie.Need-loop-holds Inv-loop μ-loop
-loop-holds c = refl
-
-shared-slice-read-x : tie.Need-shared-slice-read-x Inv-loop μ-loop
-shared-slice-read-x c = omega arith
-
-returns : tie.Need-returns Inv-loop μ-loop
-returns c = sym (sampled-stop (c .before .before .before .before .args .samples .now) (c .before .before .before .loop .i) (c .before .before .loop-test .taken) (c .if1 .taken)) ∙ c .before .before .before .loop .inv
-
-add-i : tie.Need-add-i Inv-loop μ-loop
-add-i c = omega arith
-
-loop-less : tie.Need-loop-less Inv-loop μ-loop
-loop-less c = omega arith
-
-loop-again : tie.Need-loop-again Inv-loop μ-loop
-loop-again c = sampled-on (c .before .before .before .before .args .samples .now) (c .before .before .before .loop .i) (c .before .before .loop-test .taken) (c .if1 .left) ∙ c .before .before .before .loop .inv
-
-returns-2 : tie.Need-returns-2 Inv-loop μ-loop
-returns-2 c = sym (sampled-end (c .before .before .args .samples .now) (c .before .loop .i) (c .loop-test .left)) ∙ c .before .loop .inv
-
 pub is-sampled-spec : {M : Type 1} → statement M
 is-sampled-spec =
     tie.close
     (tie.spec
     Inv-loop
     μ-loop
-    loop-holds
-    shared-slice-read-x
-    returns
-    add-i
-    loop-less
-    loop-again
-    returns-2)
+    -- loop-holds
+    (λ c. refl)
+    -- shared-slice-read-x
+    (λ c. omega arith)
+    -- returns
+    (λ c. sym (sampled-stop (c .before .before .before .before .args .samples .now) (c .before .before .before .loop .i) (c .before .before .loop-test .taken) (c .if1 .taken)) ∙ c .before .before .before .loop .inv)
+    -- add-i
+    (λ c. omega arith)
+    -- loop-less
+    (λ c. omega arith)
+    -- loop-again
+    (λ c. sampled-on (c .before .before .before .before .args .samples .now) (c .before .before .before .loop .i) (c .before .before .loop-test .taken) (c .if1 .left) ∙ c .before .before .before .loop .inv)
+    -- returns-2
+    (λ c. sym (sampled-end (c .before .before .args .samples .now) (c .before .loop .i) (c .loop-test .left)) ∙ c .before .loop .inv))

@@ -16,10 +16,8 @@ is-sized-spec =
     (λ c κs. tt)
     -- returns
     (λ c. rw (← c .before .is-known .ensures, not-true (c .before .is-known .result) (c .if1 .taken)))
-    -- of-requires
-    (λ c κs. tt)
-    -- is-offered-requires
-    (λ c κs. tt)
+    -- of-requires, is-offered-requires
+    (λ c κs. tt) (λ c κs. tt)
     -- returns-2
     (λ c. rw (← c .before .before .before .before .is-known .ensures, not-false (c .before .before .before .before .is-known .result) (c .before .before .before .if1 .left), ← (rw (c .before .before .of .ensures) at (c .before .is-offered .ensures)), not-true (c .before .is-offered .result) (c .if2 .taken)))
     -- memory-size-requires

@@ -13,59 +13,25 @@ unfolding transactOf
 transact-spec =
     tie.close
     (tie.spec
-    -- is-sized-requires
-    (λ c κs. tt)
-    -- unclocked-requires
-    (λ c κs. tt)
-    -- same-length
-    (λ c. search needs)
-    -- same-length-2
-    (λ c. search needs)
+    -- is-sized-requires, unclocked-requires, same-length, same-length-2
+    (λ c κs. tt) (λ c κs. tt) (λ c. search needs) (λ c. search needs)
     -- returns
     (λ c. rw (← c .before .before .is-sized .ensures, not-true (c .before .before .is-sized .result) (c .before .if1 .taken), c .unclocked .ensures))
-    -- has-room-requires
-    (λ c κs. tt)
-    -- unclocked-requires-2
-    (λ c κs. tt)
-    -- same-length-3
-    (λ c. search needs)
-    -- same-length-4
-    (λ c. search needs)
-    -- same-length-5
-    (λ c. search needs)
+    -- has-room-requires, unclocked-requires-2, same-length-3, same-length-4, same-length-5
+    (λ c κs. tt) (λ c κs. tt) (λ c. search needs) (λ c. search needs) (λ c. search needs)
     -- returns-2
     (λ c. rw (← c .before .before .before .before .before .is-sized .ensures, not-false (c .before .before .before .before .before .is-sized .result) (c .before .before .before .before .if1 .left), ← c .before .before .has-room .ensures, not-true (c .before .before .has-room .result) (c .before .if2 .taken), c .unclocked2 .ensures))
-    -- is-sampled-requires
-    (λ c κs. tt)
-    -- unclocked-requires-3
-    (λ c κs. tt)
-    -- same-length-6
-    (λ c. search needs)
-    -- same-length-7
-    (λ c. search needs)
-    -- same-length-8
-    (λ c. search needs)
+    -- is-sampled-requires, unclocked-requires-3, same-length-6, same-length-7, same-length-8
+    (λ c κs. tt) (λ c κs. tt) (λ c. search needs) (λ c. search needs) (λ c. search needs)
     -- returns-3
     (λ c. rw (← c .before .before .before .before .before .before .before .is-sized .ensures, not-false (c .before .before .before .before .before .before .before .is-sized .result) (c .before .before .before .before .before .before .if1 .left), ← c .before .before .before .before .has-room .ensures, not-false (c .before .before .before .before .has-room .result) (c .before .before .before .if2 .left), ← c .before .before .is-sampled .ensures, not-true (c .before .before .is-sampled .result) (c .before .if3 .taken), c .unclocked3 .ensures))
-    -- valid-requires
-    (λ c κs. tt)
-    -- unclocked-requires-4
-    (λ c κs. tt)
-    -- same-length-9
-    (λ c. search needs)
-    -- same-length-10
-    (λ c. search needs)
-    -- same-length-11
-    (λ c. search needs)
+    -- valid-requires, unclocked-requires-4, same-length-9, same-length-10, same-length-11
+    (λ c κs. tt) (λ c κs. tt) (λ c. search needs) (λ c. search needs) (λ c. search needs)
     -- returns-4
     (λ c. rw (← c .before .before .before .before .before .before .before .before .before .is-sized .ensures, not-false (c .before .before .before .before .before .before .before .before .before .is-sized .result) (c .before .before .before .before .before .before .before .before .if1 .left), ← c .before .before .before .before .before .before .has-room .ensures, not-false (c .before .before .before .before .before .before .has-room .result) (c .before .before .before .before .before .if2 .left), ← c .before .before .before .before .is-sampled .ensures, not-false (c .before .before .before .before .is-sampled .result) (c .before .before .before .if3 .left), ← c .before .before .valid .ensures, not-true (c .before .before .valid .result) (c .before .if4 .taken), c .unclocked4 .ensures))
     -- clocked-requires
     (λ c κs. passed _ _ _ _ (sym (c .before .before .before .before .before .before .before .before .before .before .before .is-sized .ensures) ∙ not-false (c .before .before .before .before .before .before .before .before .before .before .before .is-sized .result) (c .before .before .before .before .before .before .before .before .before .before .if1 .left)) (sym (c .before .before .before .before .before .before .before .before .has-room .ensures) ∙ not-false (c .before .before .before .before .before .before .before .before .has-room .result) (c .before .before .before .before .before .before .before .if2 .left)))
-    -- same-length-12
-    (λ c. search needs)
-    -- same-length-13
-    (λ c. search needs)
-    -- same-length-14
-    (λ c. search needs)
+    -- same-length-12, same-length-13, same-length-14
+    (λ c. search needs) (λ c. search needs) (λ c. search needs)
     -- returns-5
     (λ c. rw (← c .before .before .before .before .before .before .before .before .before .before .before .before .before .before .before .before .before .before .is-sized .ensures, not-false (c .before .before .before .before .before .before .before .before .before .before .before .before .before .before .before .before .before .before .is-sized .result) (c .before .before .before .before .before .before .before .before .before .before .before .before .before .before .before .before .before .if1 .left), ← c .before .before .before .before .before .before .before .before .before .before .before .before .before .before .before .has-room .ensures, not-false (c .before .before .before .before .before .before .before .before .before .before .before .before .before .before .before .has-room .result) (c .before .before .before .before .before .before .before .before .before .before .before .before .before .before .if2 .left), ← c .before .before .before .before .before .before .before .before .before .before .before .before .before .is-sampled .ensures, not-false (c .before .before .before .before .before .before .before .before .before .before .before .before .before .is-sampled .result) (c .before .before .before .before .before .before .before .before .before .before .before .before .if3 .left), ← c .before .before .before .before .before .before .before .before .before .before .before .valid .ensures, not-false (c .before .before .before .before .before .before .before .before .before .before .before .valid .result) (c .before .before .before .before .before .before .before .before .before .before .if4 .left), c .before .before .before .before .before .before .clocked .ensures)))

@@ -16,37 +16,23 @@ Inv-loop memory₀ i₀ memory i = (i ≤ length memory₀) × (memory ≡ repli
 abbrev μ-loop : tie.MeasureT-loop
 μ-loop memory₀ i₀ memory i = length memory₀ - i
 
-loop-holds : tie.Need-loop-holds Inv-loop μ-loop
-loop-holds c = (omega arith, refl, refl)
-
-slice-write-memory : tie.Need-slice-write-memory Inv-loop μ-loop
-slice-write-memory c = omega arith
-
-add-i : tie.Need-add-i Inv-loop μ-loop
-add-i c = omega arith
-
-loop-less : tie.Need-loop-less Inv-loop μ-loop
-loop-less c = omega arith
-
-loop-again : tie.Need-loop-again Inv-loop μ-loop
-loop-again c = let l = c .before .loop .inv .2 in let h : c .before .loop .i < length (c .before .before .args .memory .now) = omega arith in (omega arith, ap (λ (m : List ℕ). set m (c .before .loop .i) 0) (c .before .loop .inv .1) ∙ fill-more (c .before .loop .i) 0 (c .before .before .args .memory .now) h, length-set (c .before .loop .memory) (c .before .loop .i) 0 ∙ l)
-
-same-length : tie.Need-same-length Inv-loop μ-loop
-same-length c = c .before .loop .inv .2
-
-returns : tie.Need-returns Inv-loop μ-loop
-returns c = let l = c .before .loop .inv .2 in let e : c .before .loop .i ≡ length (c .before .before .args .memory .now) = omega arith in c .before .loop .inv .1 ∙ rw (e, drop-length, append-nil)
-
 pub wipe-spec : {M : Type 1} → statement M
 wipe-spec =
     tie.close
     (tie.spec
     Inv-loop
     μ-loop
-    loop-holds
-    slice-write-memory
-    add-i
-    loop-less
-    loop-again
-    same-length
-    returns)
+    -- loop-holds
+    (λ c. (omega arith, refl, refl))
+    -- slice-write-memory
+    (λ c. omega arith)
+    -- add-i
+    (λ c. omega arith)
+    -- loop-less
+    (λ c. omega arith)
+    -- loop-again
+    (λ c. let l = c .before .loop .inv .2 in let h : c .before .loop .i < length (c .before .before .args .memory .now) = omega arith in (omega arith, ap (λ (m : List ℕ). set m (c .before .loop .i) 0) (c .before .loop .inv .1) ∙ fill-more (c .before .loop .i) 0 (c .before .before .args .memory .now) h, length-set (c .before .loop .memory) (c .before .loop .i) 0 ∙ l))
+    -- same-length
+    (λ c. c .before .loop .inv .2)
+    -- returns
+    (λ c. let l = c .before .loop .inv .2 in let e : c .before .loop .i ≡ length (c .before .before .args .memory .now) = omega arith in c .before .loop .inv .1 ∙ rw (e, drop-length, append-nil)))

@@ -10,35 +10,9 @@ pub build-spec : {M : Type 1} → statement M
 build-spec =
     tie.close
     (tie.spec
-    -- order-of-requires
-    (λ c κs. tt)
-    -- build-requires
-    (λ c κs. tt)
-    -- answer-number-requires
-    (λ c κs. tt)
-    -- put-refusal-requires
-    (λ c κs. tt)
-    -- flush-to-requires
-    (λ c κs. tt)
-    -- same-length
-    (λ c. search needs)
-    -- same-length-2
-    (λ c. search needs)
-    -- returns
-    (λ c. tt)
-    -- same-length-3
-    (λ c. search needs)
-    -- returns-2
-    (λ c. tt)
-    -- slice-reshare-prefix-tell
-    (λ c. search needs)
+    -- order-of-requires, build-requires, answer-number-requires, put-refusal-requires, flush-to-requires, same-length, same-length-2, returns, same-length-3, returns-2, slice-reshare-prefix-tell
+    (λ c κs. tt) (λ c κs. tt) (λ c κs. tt) (λ c κs. tt) (λ c κs. tt) (λ c. search needs) (λ c. search needs) (λ c. tt) (λ c. search needs) (λ c. tt) (λ c. search needs)
     -- slice-aggregate-tell
     (λ c. sym (length-take-le _ _ (c .before .before .if2 .left)))
-    -- tell-requires
-    (λ c κs. search needs)
-    -- same-length-4
-    (λ c. search needs)
-    -- same-length-5
-    (λ c. search needs)
-    -- returns-3
-    (λ c. tt))
+    -- tell-requires, same-length-4, same-length-5, returns-3
+    (λ c κs. search needs) (λ c. search needs) (λ c. search needs) (λ c. tt))

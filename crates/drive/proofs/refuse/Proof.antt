@@ -14,11 +14,5 @@ refuse-spec =
     (λ c. tt)
     -- slice-aggregate-put-wrong
     (λ c. sym (length-take-le _ _ (c .before .before .if1 .left)))
-    -- put-wrong-requires
-    (λ c κs. tt)
-    -- flush-to-requires
-    (λ c κs. tt)
-    -- same-length
-    (λ c. search needs)
-    -- returns-2
-    (λ c. tt))
+    -- put-wrong-requires, flush-to-requires, same-length, returns-2
+    (λ c κs. tt) (λ c κs. tt) (λ c. search needs) (λ c. tt))

@@ -10,29 +10,9 @@ pub turn-spec : {M : Type 1} → statement M
 turn-spec =
     tie.close
     (tie.spec
-    -- take-tape-requires
-    (λ c κs. tt)
-    -- same-length
-    (λ c. search needs)
-    -- returns
-    (λ c. tt)
-    -- same-length-2
-    (λ c. search needs)
-    -- returns-2
-    (λ c. tt)
-    -- too-long-requires
-    (λ c κs. tt)
-    -- same-length-3
-    (λ c. search needs)
-    -- returns-3
-    (λ c. tt)
-    -- slice-reshare-prefix-play
-    (λ c. search needs)
+    -- take-tape-requires, same-length, returns, same-length-2, returns-2, too-long-requires, same-length-3, returns-3, slice-reshare-prefix-play
+    (λ c κs. tt) (λ c. search needs) (λ c. tt) (λ c. search needs) (λ c. tt) (λ c κs. tt) (λ c. search needs) (λ c. tt) (λ c. search needs)
     -- slice-aggregate-play
     (λ c. sym (length-take-le _ _ (c .before .if3 .left)))
-    -- play-requires
-    (λ c κs. tt)
-    -- same-length-4
-    (λ c. search needs)
-    -- returns-4
-    (λ c. tt))
+    -- play-requires, same-length-4, returns-4
+    (λ c κs. tt) (λ c. search needs) (λ c. tt))

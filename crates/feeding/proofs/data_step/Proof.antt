@@ -1,35 +1,20 @@
--- `feeding::data_step` meets its contract: the byte is held or taken, and the whole bytes decide whether the data is full.
+-- `feeding::data_step` meets its contract: the whole bytes decide whether the data is full.
 -- Assumes nothing.
-use mathlib.Core.Path.{sym, _∙_}
-use Rattle.clocking.specs.Machine.{dataStep}
 use borrow.Author.Needs.{needs}
 use Rattle.feeding.proofs.data_step.Statement.{statement}
 use Rattle.feeding.proofs.data_step.Tie as tie
+use Rattle.clocking.specs.Machine.{dataStep}
 
 pub data-step-spec : {M : Type 1} → statement M
 unfolding dataStep
 data-step-spec =
     tie.close
     (tie.spec
-    -- body-tick-requires
-    (λ c κs. search needs)
-    -- wires-for-requires
-    (λ c κs. tt)
-    -- body-for-requires
-    (λ c κs. search needs)
-    -- hold-requires
-    (λ c κs. search needs)
-    -- is-full-requires
-    (λ c κs. tt)
-    -- same-length
-    (λ c. search needs)
-    -- same-length-2
-    (λ c. search needs)
+    -- hold-data-requires, body-tick-requires, body-for-requires, wires-for-requires, is-full-requires, entered-requires, same-length, same-length-2
+    (λ c κs. search needs) (λ c κs. search needs) (λ c κs. search needs) (λ c κs. tt) (λ c κs. tt) (λ c κs. tt) (λ c. search needs) (λ c. search needs)
     -- returns
-    (λ c. let e = rw (c .before .before .before .before .before .before .before .before .before .before .before .wires-for .ensures) at (c .before .before .before .before .before .before .before .hold .ensures) in let f = sym (rw (c .before .before .before .before .before .before .before .before .before .before .body-for .ensures, c .before .before .before .before .before .before .before .before .before .before .before .wires-for .ensures, c .before .before .before .before .before .before .before .before .before .before .before .before .before .body-tick .ensures) at (c .before .is-full .ensures)) ∙ c .if1 .taken in rw (f, ← e, c .before .before .before .before .before .before .before .before .before .before .before .before .before .body-tick .ensures))
-    -- same-length-3
-    (λ c. search needs)
-    -- same-length-4
-    (λ c. search needs)
+    (λ c. let f = rw (c .before .before .before .before .before .before .body-tick .ensures) at (c .before .before .is-full .ensures) in rw (← c .before .before .before .before .before .before .before .before .before .before .before .before .before .before .hold-data .ensures, ← c .before .before .before .before .body-for .ensures, ← c .before .before .before .wires-for .ensures, ← f, c .before .if1 .taken, c .entered .ensures, c .before .before .before .before .before .before .body-tick .ensures))
+    -- onward-requires, same-length-3, same-length-4
+    (λ c κs. tt) (λ c. search needs) (λ c. search needs)
     -- returns-2
-    (λ c. let e = rw (c .before .before .before .before .before .before .before .before .before .before .before .wires-for .ensures) at (c .before .before .before .before .before .before .before .hold .ensures) in let f = sym (rw (c .before .before .before .before .before .before .before .before .before .before .body-for .ensures, c .before .before .before .before .before .before .before .before .before .before .before .wires-for .ensures, c .before .before .before .before .before .before .before .before .before .before .before .before .before .body-tick .ensures) at (c .before .is-full .ensures)) ∙ c .if1 .left in rw (f, ← e, c .before .before .before .before .before .before .before .before .before .before .before .before .before .body-tick .ensures)))
+    (λ c. let f = rw (c .before .before .before .before .before .before .body-tick .ensures) at (c .before .before .is-full .ensures) in rw (← c .before .before .before .before .before .before .before .before .before .before .before .before .before .before .hold-data .ensures, ← c .before .before .before .before .body-for .ensures, ← c .before .before .before .wires-for .ensures, ← f, c .before .if1 .left, c .onward .ensures, c .before .before .before .before .before .before .body-tick .ensures)))

@@ -1,31 +1,21 @@
 -- `feeding::drive` meets its contract: only data clocks drive.
 -- Assumes nothing.
-use Rattle.clocking.specs.Machine.{driveOf}
 use borrow.Author.Needs.{needs}
 use Rattle.feeding.proofs.drive.Statement.{statement}
 use Rattle.feeding.proofs.drive.Tie as tie
+use Rattle.clocking.specs.Machine.{driveOf}
 
 pub drive-spec : {M : Type 1} → statement M
 unfolding driveOf
 drive-spec =
     tie.close
     (tie.spec
-    -- enum-told
-    (λ c. search needs)
-    -- enum-told-2
-    (λ c. search needs)
-    -- enum-told-3
-    (λ c. search needs)
-    -- enum-told-4
-    (λ c. search needs)
-    -- setting-requires
-    (λ c κs. tt)
+    -- enum-told, enum-told-2, enum-told-3, enum-told-4, setting-requires
+    (λ c. search needs) (λ c. search needs) (λ c. search needs) (λ c. search needs) (λ c κs. tt)
     -- body-for-requires
-    (λ c κs. rw (c .setting .ensures) (c .before .before .before .before .before .before .before .pre .0))
-    -- driven-at-requires
-    (λ c κs. search needs)
-    -- enum-told-5
-    (λ c. search needs)
+    (λ c κs. rw (c .setting .ensures) (c .before .before .before .before .before .before .before .before .pre .0))
+    -- driven-at-requires, enum-told-5
+    (λ c κs. search needs) (λ c. search needs)
     -- returns
     (λ c. rw (c .enum-told .given .1))
     -- returns-2

@@ -1,45 +1,28 @@
--- `feeding::take_byte` meets its contract: the data of the command decides.
+-- `feeding::take_byte` meets its contract: what the data is decides.
 -- Assumes nothing.
-use mathlib.Core.Path.{sym, _∙_}
-use lib.ListN.{set}
-use Rattle.clocking.specs.Machine.{holds}
-use Rattle.feeding.specs.Views.{takenAs}
-use Rattle.feeding.specs.Laws.{held-same, held-value}
 use borrow.Author.Needs.{needs}
 use Rattle.feeding.proofs.take_byte.Statement.{statement}
 use Rattle.feeding.proofs.take_byte.Tie as tie
+use mathlib.Core.Path.{refl, sym, ap, _∙_}
+use Rattle.paper.specs.Storing.{Lent}
+use Rattle.words.specs.Words.{Taken, takenAs}
+use Rattle.clocking.specs.Laws.{byte-kept, byte-valued}
 
 pub take-byte-spec : {M : Type 1} → statement M
 take-byte-spec =
     tie.close
     (tie.spec
-    -- body-for-requires
-    (λ c κs. search needs)
-    -- enum-told
-    (λ c. search needs)
-    -- enum-told-2
-    (λ c. search needs)
-    -- enum-told-3
-    (λ c. search needs)
-    -- enum-told-4
-    (λ c. search needs)
-    -- with-byte-requires
-    (λ c κs. tt)
-    -- enum-told-5
-    (λ c. search needs)
-    -- store-byte-requires
-    (λ c κs. search needs)
+    -- body-for-requires, enum-told, enum-told-2, enum-told-3, enum-told-4, with-byte-requires, enum-told-5, store-byte-requires
+    (λ c κs. search needs) (λ c. search needs) (λ c. search needs) (λ c. search needs) (λ c. search needs) (λ c κs. tt) (λ c. search needs) (λ c κs. search needs)
     -- returns
-    (λ c. rw (sym (c .before .before .body-for .ensures) ∙ c .enum-told .given .1) (held-same (holds (c .before .before .before .before .before .args .s) (c .before .before .before .before .before .args .latch) (c .before .before .before .before .before .args .k)) (takenAs (c .before .before .before .before .before .args .value) (c .before .before .before .before .before .args .any) (c .before .before .before .before .before .args .memory .now) (c .before .before .before .before .before .args .area .now))))
+    (λ c. byte-kept (c .before .before .before .before .before .before .args .hold) (c .before .before .before .before .before .before .args .a) (c .before .before .before .before .before .before .args .i) (c .before .before .before .before .before .before .args .b) (takenAs (c .before .before .before .before .before .before .args .value) (c .before .before .before .before .before .before .args .memory .now) (c .before .before .before .before .before .before .args .area .now)) (sym (c .before .before .body-for .ensures) ∙ c .enum-told .given .1) refl)
     -- returns-2
-    (λ c. rw (sym (c .before .before .body-for .ensures) ∙ c .enum-told2 .given .1) (held-same (holds (c .before .before .before .before .before .args .s) (c .before .before .before .before .before .args .latch) (c .before .before .before .before .before .args .k)) (takenAs (c .before .before .before .before .before .args .value) (c .before .before .before .before .before .args .any) (c .before .before .before .before .before .args .memory .now) (c .before .before .before .before .before .args .area .now))))
+    (λ c. byte-kept (c .before .before .before .before .before .before .args .hold) (c .before .before .before .before .before .before .args .a) (c .before .before .before .before .before .before .args .i) (c .before .before .before .before .before .before .args .b) (takenAs (c .before .before .before .before .before .before .args .value) (c .before .before .before .before .before .before .args .memory .now) (c .before .before .before .before .before .before .args .area .now)) (sym (c .before .before .body-for .ensures) ∙ c .enum-told2 .given .1) refl)
     -- returns-3
-    (λ c. rw (sym (c .before .before .body-for .ensures) ∙ c .enum-told3 .given .1) (held-same (holds (c .before .before .before .before .before .args .s) (c .before .before .before .before .before .args .latch) (c .before .before .before .before .before .args .k)) (takenAs (c .before .before .before .before .before .args .value) (c .before .before .before .before .before .args .any) (c .before .before .before .before .before .args .memory .now) (c .before .before .before .before .before .args .area .now))))
+    (λ c. byte-kept (c .before .before .before .before .before .before .args .hold) (c .before .before .before .before .before .before .args .a) (c .before .before .before .before .before .before .args .i) (c .before .before .before .before .before .before .args .b) (takenAs (c .before .before .before .before .before .before .args .value) (c .before .before .before .before .before .before .args .memory .now) (c .before .before .before .before .before .before .args .area .now)) (sym (c .before .before .body-for .ensures) ∙ c .enum-told3 .given .1) refl)
     -- returns-4
-    (λ c. rw (sym (c .before .before .before .body-for .ensures) ∙ c .before .enum-told4 .given .1, c .with-byte .ensures) (held-value (holds (c .before .before .before .before .before .before .args .s) (c .before .before .before .before .before .before .args .latch) (c .before .before .before .before .before .before .args .k)) (takenAs (c .before .before .before .before .before .before .args .value) (c .before .before .before .before .before .before .args .any) (c .before .before .before .before .before .before .args .memory .now) (c .before .before .before .before .before .before .args .area .now)) (set (c .before .before .before .before .before .before .args .value) (c .before .before .before .before .before .before .args .i .0) (c .before .before .before .before .before .before .args .b))))
-    -- same-length
-    (λ c. search needs)
-    -- same-length-2
-    (λ c. search needs)
+    (λ c. rw (c .with-byte .ensures) (byte-valued (c .before .before .before .before .before .before .before .args .hold) (c .before .before .before .before .before .before .before .args .a) (c .before .before .before .before .before .before .before .args .i) (c .before .before .before .before .before .before .before .args .b) (takenAs (c .before .before .before .before .before .before .before .args .value) (c .before .before .before .before .before .before .before .args .memory .now) (c .before .before .before .before .before .before .before .args .area .now)) (sym (c .before .before .before .body-for .ensures) ∙ c .before .enum-told4 .given .1)))
+    -- same-length, same-length-2
+    (λ c. search needs) (λ c. search needs)
     -- returns-5
-    (λ c. rw (sym (c .before .before .before .before .before .before .before .before .before .body-for .ensures) ∙ c .before .before .before .before .before .before .before .enum-told5 .given .1) (c .before .before .before .before .store-byte .ensures)))
+    (λ c. rw (sym (c .before .before .before .before .before .before .before .before .before .body-for .ensures) ∙ c .before .before .before .before .before .before .before .enum-told5 .given .1) (ap {B = Taken} (λ (l : Lent). record { lent = l; value = c .before .before .before .before .before .before .before .before .before .before .before .before .before .args .value }) (c .before .before .before .before .store-byte .ensures))))

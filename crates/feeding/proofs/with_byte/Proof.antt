@@ -12,9 +12,7 @@ pub with-byte-spec : {M : Type 1} → statement M
 with-byte-spec =
     tie.close
     (tie.spec
-    -- array-write-value
-    (λ c. search needs)
-    -- returns
-    (λ c. search needs)
+    -- array-write-value, returns
+    (λ c. search needs) (λ c. search needs)
     -- returns-2
     (λ c. let l : length (c .before .args .t1) ≡ 8 = search needs in sym (set-out (c .before .args .t1) (c .before .args .i .0) (c .before .args .b) (omega arith))))

@@ -12,19 +12,11 @@ pub build-spec : {M : Type 1} → statement M
 build-spec =
     tie.close
     (tie.spec
-    -- kind-asked-requires
-    (λ c κs. tt)
-    -- refusal-requires
-    (λ c κs. tt)
-    -- is-done-requires
-    (λ c κs. tt)
-    -- same-length
-    (λ c. search needs)
+    -- kind-asked-requires, refusal-requires, is-done-requires, same-length
+    (λ c κs. tt) (λ c κs. tt) (λ c κs. tt) (λ c. search needs)
     -- returns
     (λ c. build-refused (orderAs (c .before .before .before .before .before .before .before .args .o) (c .before .before .before .before .before .before .before .args .written .now)) _ (rw (kind-same (c .before .before .before .before .before .before .before .args .o) (c .before .before .before .before .before .before .before .args .written .now) (c .before .before .before .before .kind-asked .ensures)) at (c .before .before .refusal .ensures)) (sym (c .before .is-done .ensures) ∙ not-true (c .before .is-done .result) (c .if1 .taken)))
-    -- put-built-requires
-    (λ c κs. tt)
-    -- same-length-2
-    (λ c. search needs)
+    -- put-built-requires, same-length-2
+    (λ c κs. tt) (λ c. search needs)
     -- returns-2
     (λ c. build-done (orderAs (c .before .before .before .before .before .before .before .before .before .before .before .args .o) (c .before .before .before .before .before .before .before .before .before .before .before .args .written .now)) _ (rw (kind-same (c .before .before .before .before .before .before .before .before .before .before .before .args .o) (c .before .before .before .before .before .before .before .before .before .before .before .args .written .now) (c .before .before .before .before .before .before .before .before .kind-asked .ensures)) at (c .before .before .before .before .before .before .refusal .ensures)) (sym (c .before .before .before .before .before .is-done .ensures) ∙ not-false (c .before .before .before .before .before .is-done .result) (c .before .before .before .before .if1 .left)) (rw (kind-same (c .before .before .before .before .before .before .before .before .before .before .before .args .o) (c .before .before .before .before .before .before .before .before .before .before .before .args .written .now) (c .before .before .before .before .before .before .before .before .kind-asked .ensures)) at (c .before .before .put-built .ensures))))

@@ -11,19 +11,11 @@ pub gather-spec : {M : Type 1} → statement M
 gather-spec =
     tie.close
     (tie.spec
-    -- refusal-requires
-    (λ c κs. tt)
-    -- is-done-requires
-    (λ c κs. tt)
-    -- same-length
-    (λ c. search needs)
+    -- refusal-requires, is-done-requires, same-length
+    (λ c κs. tt) (λ c κs. tt) (λ c. search needs)
     -- returns
     (λ c. gather-refused _ _ _ (c .before .before .refusal .ensures) (sym (c .before .is-done .ensures) ∙ not-true (c .before .is-done .result) (c .if1 .taken)))
-    -- mode-wires-requires
-    (λ c κs. tt)
-    -- put-collected-requires
-    (λ c κs. tt)
-    -- same-length-2
-    (λ c. search needs)
+    -- mode-wires-requires, put-collected-requires, same-length-2
+    (λ c κs. tt) (λ c κs. tt) (λ c. search needs)
     -- returns-2
     (λ c. gather-done _ _ _ (c .before .before .before .before .before .before .before .refusal .ensures) (sym (c .before .before .before .before .before .before .is-done .ensures) ∙ not-false (c .before .before .before .before .before .before .is-done .result) (c .before .before .before .before .before .if1 .left)) (rw (c .before .before .before .before .mode-wires .ensures) at (c .before .before .put-collected .ensures))))

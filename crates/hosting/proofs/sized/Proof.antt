@@ -10,33 +10,13 @@ pub sized-spec : {M : Type 1} → statement M
 sized-spec =
     tie.close
     (tie.spec
-    -- cut-requires
-    (λ c κs. tt)
-    -- same-length
-    (λ c. search needs)
-    -- returns
-    (λ c. tt)
-    -- cut-requires-2
-    (λ c κs. tt)
-    -- same-length-2
-    (λ c. search needs)
-    -- returns-2
-    (λ c. tt)
-    -- slice-relend-prefix-run
-    (λ c. search needs)
+    -- cut-requires, same-length, returns, cut-requires-2, same-length-2, returns-2, slice-relend-prefix-run
+    (λ c κs. tt) (λ c. search needs) (λ c. tt) (λ c κs. tt) (λ c. search needs) (λ c. tt) (λ c. search needs)
     -- slice-aggregate-run
     (λ c. sym (length-take-le _ _ (c .before .before .if1 .left)))
     -- slice-relend-prefix-run-2
     (λ c. search needs)
     -- slice-aggregate-run-2
     (λ c. sym (length-take-le _ _ (c .before .before .if2 .left)))
-    -- run-requires
-    (λ c κs. tt)
-    -- same-length-3
-    (λ c. search needs)
-    -- same-length-4
-    (λ c. search needs)
-    -- same-length-5
-    (λ c. search needs)
-    -- returns-3
-    (λ c. tt))
+    -- run-requires, same-length-3, same-length-4, same-length-5, returns-3
+    (λ c κs. tt) (λ c. search needs) (λ c. search needs) (λ c. search needs) (λ c. tt))

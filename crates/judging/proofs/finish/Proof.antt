@@ -1,20 +1,20 @@
--- `judging::finish` meets its contract: the table and what its answer leaves.
+-- `judging::finish` meets its contract: the answer, and what it leaves.
 -- Assumes nothing.
-use Rattle.paper.specs.Answers.{judge}
-use Rattle.judging.specs.Finish.{outcomeOf}
 use Rattle.judging.proofs.finish.Statement.{statement}
 use Rattle.judging.proofs.finish.Tie as tie
+use Rattle.paper.specs.Answers.{judge}
+use Rattle.judging.specs.Finish.{outcomeOf}
 
 pub finish-spec : {M : Type 1} → statement M
-unfolding judge outcomeOf
+unfolding outcomeOf judge
 finish-spec =
     tie.close
     (tie.spec
     -- setting-requires
     (λ c κs. tt)
     -- judge-in-requires
-    (λ c κs. rw (c .before .before .setting .ensures) (c .before .before .before .pre))
+    (λ c κs. rw (c .before .before .before .setting .ensures) (c .before .before .before .before .pre))
     -- settled-requires
     (λ c κs. tt)
     -- returns
-    (λ c. rw (c .settled .ensures, c .before .judge-in .ensures, c .before .before .before .before .setting .ensures)))
+    (λ c. rw (c .settled .ensures, c .before .judge-in .ensures, c .before .before .before .before .before .setting .ensures)))

@@ -8,22 +8,12 @@ pub is-long-spec : {M : Type 1} → statement M
 is-long-spec =
     tie.close
     (tie.spec
-    -- enum-told
-    (λ c. search needs)
-    -- enum-told-2
-    (λ c. search needs)
-    -- enum-told-3
-    (λ c. search needs)
-    -- enum-told-4
-    (λ c. search needs)
-    -- enum-told-5
-    (λ c. search needs)
+    -- enum-told, enum-told-2, enum-told-3, enum-told-4, enum-told-5
+    (λ c. search needs) (λ c. search needs) (λ c. search needs) (λ c. search needs) (λ c. search needs)
     -- returns
     (λ c. rw (c .before .enum-told .given .1))
-    -- returns-2
-    (λ c. search needs)
-    -- returns-3
-    (λ c. search needs)
+    -- returns-2, returns-3
+    (λ c. search needs) (λ c. search needs)
     -- returns-4
     (λ c. rw (c .before .enum-told4 .given .1))
     -- returns-5

@@ -8,26 +8,8 @@ pub is-short-spec : {M : Type 1} → statement M
 is-short-spec =
     tie.close
     (tie.spec
-    -- enum-told
-    (λ c. search needs)
-    -- enum-told-2
-    (λ c. search needs)
-    -- enum-told-3
-    (λ c. search needs)
-    -- enum-known-b
-    (λ c. search needs)
-    -- clocks-to-bytes-requires
-    (λ c κs. tt)
-    -- enum-told-4
-    (λ c. search needs)
-    -- clocks-to-bytes-requires-2
-    (λ c κs. tt)
-    -- returns
-    (λ c. search needs)
-    -- returns-2
-    (λ c. search needs)
-    -- returns-3
-    (λ c. search needs)
+    -- enum-told, enum-told-2, enum-told-3, enum-known-b, clocks-to-bytes-requires, enum-told-4, clocks-to-bytes-requires-2, returns, returns-2, returns-3
+    (λ c. search needs) (λ c. search needs) (λ c. search needs) (λ c. search needs) (λ c κs. tt) (λ c. search needs) (λ c κs. tt) (λ c. search needs) (λ c. search needs) (λ c. search needs)
     -- returns-4
     (λ c. rw (c .before .before .before .before .b .given .1, c .before .before .clocks-to-bytes .ensures))
     -- returns-5

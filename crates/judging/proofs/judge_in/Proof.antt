@@ -1,9 +1,9 @@
 -- `judging::judge_in` meets its contract: each way is the first row that holds.
 -- Assumes nothing.
-use borrow.Author.Tests.{lt-ltb, le-ltb}
 use borrow.Author.Needs.{needs}
 use Rattle.judging.proofs.judge_in.Statement.{statement}
 use Rattle.judging.proofs.judge_in.Tie as tie
+use borrow.Author.Tests.{lt-ltb, le-ltb}
 
 pub judge-in-spec : {M : Type 1} → statement M
 judge-in-spec =

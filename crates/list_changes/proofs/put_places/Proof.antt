@@ -24,19 +24,11 @@ put-places-spec =
     (λ c. search needs)
     -- shared-slice-read-x
     (λ c. omega arith)
-    -- byte-at-requires
-    (λ c κs. tt)
-    -- tell-requires
-    (λ c κs. search needs)
+    -- byte-at-requires, tell-requires
+    (λ c κs. tt) (λ c κs. search needs)
     -- add-i
     (λ c. omega arith)
     -- loop-less
     (λ c. omega arith)
-    -- loop-again
-    (λ c. search needs)
-    -- put-others-requires
-    (λ c κs. tt)
-    -- same-length
-    (λ c. search needs)
-    -- returns
-    (λ c. tt))
+    -- loop-again, put-others-requires, same-length, returns
+    (λ c. search needs) (λ c κs. tt) (λ c. search needs) (λ c. tt))

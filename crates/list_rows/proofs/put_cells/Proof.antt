@@ -20,21 +20,11 @@ put-cells-spec =
     (tie.spec
     Inv-loop
     μ-loop
-    -- least-requires
-    (λ c κs. tt)
-    -- loop-holds
-    (λ c. search needs)
-    -- byte-at-requires
-    (λ c κs. tt)
-    -- put-cell-requires
-    (λ c κs. tt)
+    -- least-requires, loop-holds, byte-at-requires, put-cell-requires
+    (λ c κs. tt) (λ c. search needs) (λ c κs. tt) (λ c κs. tt)
     -- add-i
     (λ c. omega arith)
     -- loop-less
     (λ c. omega arith)
-    -- loop-again
-    (λ c. search needs)
-    -- same-length
-    (λ c. search needs)
-    -- returns
-    (λ c. tt))
+    -- loop-again, same-length, returns
+    (λ c. search needs) (λ c. search needs) (λ c. tt))

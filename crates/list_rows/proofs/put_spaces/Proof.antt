@@ -20,17 +20,11 @@ put-spaces-spec =
     (tie.spec
     Inv-loop
     μ-loop
-    -- loop-holds
-    (λ c. search needs)
-    -- put-requires
-    (λ c κs. tt)
+    -- loop-holds, put-requires
+    (λ c. search needs) (λ c κs. tt)
     -- add-i
     (λ c. omega arith)
     -- loop-less
     (λ c. omega arith)
-    -- loop-again
-    (λ c. search needs)
-    -- same-length
-    (λ c. search needs)
-    -- returns
-    (λ c. tt))
+    -- loop-again, same-length, returns
+    (λ c. search needs) (λ c. search needs) (λ c. tt))

@@ -29,7 +29,5 @@ first-above-spec =
     (λ c. omega arith)
     -- loop-less
     (λ c. omega arith)
-    -- loop-again
-    (λ c. search needs)
-    -- returns-2
-    (λ c. tt))
+    -- loop-again, returns-2
+    (λ c. search needs) (λ c. tt))

@@ -24,19 +24,13 @@ gather-spec =
     (λ c. search needs)
     -- shared-slice-read-x
     (λ c. omega arith)
-    -- levels-requires
-    (λ c κs. tt)
-    -- shift-in-requires
-    (λ c κs. tt)
+    -- levels-requires, shift-in-requires
+    (λ c κs. tt) (λ c κs. tt)
     -- add-i
     (λ c. omega arith)
     -- keep-byte-requires
     (λ c κs. tt)
     -- loop-less
     (λ c. omega arith)
-    -- loop-again
-    (λ c. search needs)
-    -- same-length
-    (λ c. search needs)
-    -- returns
-    (λ c. tt))
+    -- loop-again, same-length, returns
+    (λ c. search needs) (λ c. search needs) (λ c. tt))

@@ -18,17 +18,11 @@ number-in-spec =
     (tie.spec
     Inv-loop
     μ-loop
-    -- loop-holds
-    (λ c. search needs)
-    -- byte-at-requires
-    (λ c κs. tt)
-    -- shift-in-requires
-    (λ c κs. tt)
+    -- loop-holds, byte-at-requires, shift-in-requires
+    (λ c. search needs) (λ c κs. tt) (λ c κs. tt)
     -- add-i
     (λ c. omega arith)
     -- loop-less
     (λ c. omega arith)
-    -- loop-again
-    (λ c. search needs)
-    -- returns
-    (λ c. tt))
+    -- loop-again, returns
+    (λ c. search needs) (λ c. tt))

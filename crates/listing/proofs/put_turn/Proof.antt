@@ -10,21 +10,11 @@ pub put-turn-spec : {M : Type 1} → statement M
 put-turn-spec =
     tie.close
     (tie.spec
-    -- returns
-    (λ c. tt)
-    -- returns-2
-    (λ c. tt)
-    -- entry-at-requires
-    (λ c κs. tt)
-    -- put-head-requires
-    (λ c κs. tt)
+    -- returns, returns-2, entry-at-requires, put-head-requires
+    (λ c. tt) (λ c. tt) (λ c κs. tt) (λ c κs. tt)
     -- slice-aggregate-put-played
     (λ c. sym (length-take-le _ _ (c .before .before .before .before .before .before .before .before .if1 .left)))
     -- slice-aggregate-put-played-2
     (λ c. sym (length-take-le _ _ (c .before .before .before .before .before .before .before .before .if2 .left)))
-    -- put-played-requires
-    (λ c κs. tt)
-    -- same-length
-    (λ c. search needs)
-    -- returns-3
-    (λ c. tt))
+    -- put-played-requires, same-length, returns-3
+    (λ c κs. tt) (λ c. search needs) (λ c. tt))

@@ -1,4 +1,4 @@
--- `opcodes::kind_of` meets its contract: the part picks its entry of the row, the bus mode decides.
+-- `opcodes::kind_of` meets its contract: the family picks its entry of the row, the bus mode decides.
 -- Assumes nothing.
 use mathlib.Core.Path.{_∙_, ap}
 use Rattle.opcodes.specs.declared.Row.{Row}
@@ -11,17 +11,9 @@ pub kind-of-spec : {M : Type 1} → statement M
 kind-of-spec =
     tie.close
     (tie.spec
-    -- row-of-requires
-    (λ c κs. tt)
-    -- enum-told
-    (λ c. search needs)
-    -- kind-in-requires
-    (λ c κs. tt)
-    -- enum-told-2
-    (λ c. search needs)
-    -- kind-in-requires-2
-    (λ c κs. tt)
+    -- row-of-requires, enum-told, kind-in-requires, enum-told-2, kind-in-requires-2
+    (λ c κs. tt) (λ c. search needs) (λ c κs. tt) (λ c. search needs) (λ c κs. tt)
     -- returns
-    (λ c. rw (c .before .enum-told .given .1) (c .kind-in .ensures ∙ ap (λ (r : Row). kindIn (r .kindm) (r .modesm) (c .before .before .before .before .args .w)) (c .before .before .before .row-of .ensures)))
+    (λ c. rw (c .before .enum-told .given .1) (c .kind-in .ensures ∙ ap (λ (r : Row). kindIn (r .mram) (r .«mram_modes») (c .before .before .before .before .args .w)) (c .before .before .before .row-of .ensures)))
     -- returns-2
-    (λ c. rw (c .before .enum-told2 .given .1) (c .kind-in2 .ensures ∙ ap (λ (r : Row). kindIn (r .kindp) (r .modesp) (c .before .before .before .before .args .w)) (c .before .before .before .row-of .ensures))))
+    (λ c. rw (c .before .enum-told2 .given .1) (c .kind-in2 .ensures ∙ ap (λ (r : Row). kindIn (r .psram) (r .«psram_modes») (c .before .before .before .before .args .w)) (c .before .before .before .row-of .ensures))))

@@ -1,4 +1,4 @@
--- `orders::asked_of` meets its contract: an arm for each kind.
+-- `orders::asked_of` meets its contract: only the map's register may be asked for more.
 -- Assumes nothing.
 use borrow.Author.Needs.{needs}
 use Rattle.orders.proofs.asked_of.Statement.{statement}
@@ -8,51 +8,9 @@ pub asked-of-spec : {M : Type 1} → statement M
 asked-of-spec =
     tie.close
     (tie.spec
-    -- enum-told
-    (λ c. search needs)
-    -- enum-told-2
-    (λ c. search needs)
-    -- enum-told-3
-    (λ c. search needs)
-    -- enum-told-4
-    (λ c. search needs)
-    -- enum-told-5
-    (λ c. search needs)
-    -- enum-told-6
-    (λ c. search needs)
-    -- enum-told-7
-    (λ c. search needs)
-    -- enum-told-8
-    (λ c. search needs)
-    -- enum-told-9
-    (λ c. search needs)
-    -- enum-told-10
-    (λ c. search needs)
-    -- enum-told-11
-    (λ c. search needs)
-    -- enum-told-12
-    (λ c. search needs)
-    -- returns
-    (λ c. search needs)
-    -- returns-2
-    (λ c. search needs)
-    -- returns-3
-    (λ c. search needs)
+    -- enum-told, enum-told-2, enum-known-k, enum-told-3, enum-told-4, enum-told-5, enum-told-6, enum-told-7, enum-told-8, enum-told-9, returns, returns-2, returns-3
+    (λ c. search needs) (λ c. search needs) (λ c. search needs) (λ c. search needs) (λ c. search needs) (λ c. search needs) (λ c. search needs) (λ c. search needs) (λ c. search needs) (λ c. search needs) (λ c. search needs) (λ c. search needs) (λ c. search needs)
     -- returns-4
-    (λ c. rw (c .enum-told4 .given .1))
-    -- returns-5
-    (λ c. search needs)
-    -- returns-6
-    (λ c. search needs)
-    -- returns-7
-    (λ c. search needs)
-    -- returns-8
-    (λ c. search needs)
-    -- returns-9
-    (λ c. search needs)
-    -- returns-10
-    (λ c. search needs)
-    -- returns-11
-    (λ c. search needs)
-    -- returns-12
-    (λ c. search needs))
+    (λ c. rw (c .before .before .before .k .given .1, c .enum-told4 .given .1))
+    -- returns-5, returns-6, returns-7, returns-8, returns-9
+    (λ c. search needs) (λ c. search needs) (λ c. search needs) (λ c. search needs) (λ c. search needs))

@@ -7,11 +7,7 @@ pub body-asked-spec : {M : Type 1} → statement M
 body-asked-spec =
     tie.close
     (tie.spec
-    -- of-requires
-    (λ c κs. tt)
-    -- body-of-requires
-    (λ c κs. tt)
-    -- asked-of-requires
-    (λ c κs. tt)
+    -- of-requires, body-of-requires, asked-of-requires
+    (λ c κs. tt) (λ c κs. tt) (λ c κs. tt)
     -- returns
     (λ c. rw (c .asked-of .ensures, c .before .body-of .ensures, c .before .before .of .ensures)))

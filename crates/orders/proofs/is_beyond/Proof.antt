@@ -10,10 +10,8 @@ unfolding beyond
 is-beyond-spec =
     tie.close
     (tie.spec
-    -- address-of-requires
-    (λ c κs. tt)
-    -- is-addressed-requires
-    (λ c κs. tt)
+    -- address-of-requires, is-addressed-requires
+    (λ c κs. tt) (λ c κs. tt)
     -- returns
     (λ c. rw (← c .before .before .address-of .ensures, ← c .before .is-addressed .ensures, not-true (c .before .is-addressed .result) (c .if1 .taken)))
     -- returns-2

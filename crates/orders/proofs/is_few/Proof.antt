@@ -8,18 +8,8 @@ pub is-few-spec : {M : Type 1} → statement M
 is-few-spec =
     tie.close
     (tie.spec
-    -- enum-told
-    (λ c. search needs)
-    -- enum-told-2
-    (λ c. search needs)
-    -- enum-told-3
-    (λ c. search needs)
-    -- enum-known-b
-    (λ c. search needs)
-    -- enum-told-4
-    (λ c. search needs)
-    -- returns
-    (λ c. search needs)
+    -- enum-told, enum-told-2, enum-told-3, enum-known-b, enum-told-4, returns
+    (λ c. search needs) (λ c. search needs) (λ c. search needs) (λ c. search needs) (λ c. search needs) (λ c. search needs)
     -- returns-2
     (λ c. rw (c .before .enum-told2 .given .1))
     -- returns-3

@@ -8,18 +8,8 @@ pub is-many-spec : {M : Type 1} → statement M
 is-many-spec =
     tie.close
     (tie.spec
-    -- enum-told
-    (λ c. search needs)
-    -- is-any-requires
-    (λ c κs. tt)
-    -- enum-known-b
-    (λ c. search needs)
-    -- enum-told-2
-    (λ c. search needs)
-    -- enum-known-b-2
-    (λ c. search needs)
-    -- enum-told-3
-    (λ c. search needs)
+    -- enum-told, is-any-requires, enum-known-b, enum-told-2, enum-known-b-2, enum-told-3
+    (λ c. search needs) (λ c κs. tt) (λ c. search needs) (λ c. search needs) (λ c. search needs) (λ c. search needs)
     -- returns
     (λ c. rw (c .before .enum-told .given .1, c .is-any .ensures))
     -- returns-2

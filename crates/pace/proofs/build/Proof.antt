@@ -10,25 +10,9 @@ pub build-spec : {M : Type 1} → statement M
 build-spec =
     tie.close
     (tie.spec
-    -- bytes-in-requires
-    (λ c κs. tt)
-    -- fill-requires
-    (λ c κs. tt)
-    -- same-length
-    (λ c. search needs)
-    -- returns
-    (λ c. tt)
-    -- order-requires
-    (λ c κs. tt)
-    -- slice-reshare-prefix-build
-    (λ c. search needs)
+    -- bytes-in-requires, fill-requires, same-length, returns, order-requires, slice-reshare-prefix-build
+    (λ c κs. tt) (λ c κs. tt) (λ c. search needs) (λ c. tt) (λ c κs. tt) (λ c. search needs)
     -- slice-aggregate-build
     (λ c. sym (length-take-le _ _ (c .before .before .if1 .left)))
-    -- build-requires
-    (λ c κs. tt)
-    -- same-length-2
-    (λ c. search needs)
-    -- same-length-3
-    (λ c. search needs)
-    -- returns-2
-    (λ c. tt))
+    -- build-requires, same-length-2, same-length-3, returns-2
+    (λ c κs. tt) (λ c. search needs) (λ c. search needs) (λ c. tt))

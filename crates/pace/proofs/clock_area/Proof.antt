@@ -10,21 +10,9 @@ pub clock-area-spec : {M : Type 1} → statement M
 clock-area-spec =
     tie.close
     (tie.spec
-    -- of-requires
-    (λ c κs. tt)
-    -- area-requires
-    (λ c κs. tt)
-    -- returns
-    (λ c. tt)
-    -- array-borrow-prefix-area
-    (λ c. search needs)
+    -- of-requires, area-requires, returns, array-borrow-prefix-area
+    (λ c κs. tt) (λ c κs. tt) (λ c. tt) (λ c. search needs)
     -- slice-aggregate-clocked-all
     (λ c. sym (length-take-le _ _ (c .before .before .if1 .left)))
-    -- clocked-all-requires
-    (λ c κs. tt)
-    -- same-length
-    (λ c. search needs)
-    -- same-length-2
-    (λ c. search needs)
-    -- returns-2
-    (λ c. tt))
+    -- clocked-all-requires, same-length, same-length-2, returns-2
+    (λ c κs. tt) (λ c. search needs) (λ c. search needs) (λ c. tt))

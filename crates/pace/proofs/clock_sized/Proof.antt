@@ -10,23 +10,9 @@ pub clock-sized-spec : {M : Type 1} → statement M
 clock-sized-spec =
     tie.close
     (tie.spec
-    -- returns
-    (λ c. tt)
-    -- memory-size-requires
-    (λ c κs. search needs)
-    -- returns-2
-    (λ c. tt)
-    -- slice-relend-prefix-clock
-    (λ c. search needs)
+    -- returns, memory-size-requires, returns-2, slice-relend-prefix-clock
+    (λ c. tt) (λ c κs. search needs) (λ c. tt) (λ c. search needs)
     -- slice-aggregate-clock
     (λ c. sym (length-take-le _ _ (c .before .if2 .left)))
-    -- clock-requires
-    (λ c κs. tt)
-    -- same-length
-    (λ c. search needs)
-    -- same-length-2
-    (λ c. search needs)
-    -- same-length-3
-    (λ c. search needs)
-    -- returns-3
-    (λ c. tt))
+    -- clock-requires, same-length, same-length-2, same-length-3, returns-3
+    (λ c κs. tt) (λ c. search needs) (λ c. search needs) (λ c. search needs) (λ c. tt))

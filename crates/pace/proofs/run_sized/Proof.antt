@@ -10,27 +10,13 @@ pub run-sized-spec : {M : Type 1} → statement M
 run-sized-spec =
     tie.close
     (tie.spec
-    -- cast-clocks
-    (λ c. search needs)
-    -- returns
-    (λ c. tt)
-    -- returns-2
-    (λ c. tt)
-    -- slice-relend-prefix-run
-    (λ c. search needs)
+    -- cast-clocks, returns, returns-2, slice-relend-prefix-run
+    (λ c. search needs) (λ c. tt) (λ c. tt) (λ c. search needs)
     -- slice-aggregate-run
     (λ c. sym (length-take-le _ _ (c .before .before .before .if1 .left)))
     -- slice-relend-prefix-run-2
     (λ c. search needs)
     -- slice-aggregate-run-2
     (λ c. sym (length-take-le _ _ (c .before .before .before .if2 .left)))
-    -- run-requires
-    (λ c κs. tt)
-    -- same-length
-    (λ c. search needs)
-    -- same-length-2
-    (λ c. search needs)
-    -- same-length-3
-    (λ c. search needs)
-    -- returns-3
-    (λ c. tt))
+    -- run-requires, same-length, same-length-2, same-length-3, returns-3
+    (λ c κs. tt) (λ c. search needs) (λ c. search needs) (λ c. search needs) (λ c. tt))

@@ -11,12 +11,8 @@ unfolding putOf
 put-spec =
     tie.close
     (tie.spec
-    -- slice-write-buffer
-    (λ c. search needs)
-    -- add-result
-    (λ c. search needs)
-    -- same-length
-    (λ c. search needs)
+    -- slice-write-buffer, add-result, same-length
+    (λ c. search needs) (λ c. search needs) (λ c. search needs)
     -- returns
     (λ c. rw (lt-ltb _ _ (c .if1 .taken)))
     -- returns-2

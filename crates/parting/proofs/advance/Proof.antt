@@ -13,26 +13,22 @@ advance-spec =
     -- total-requires
     (λ c κs. search needs)
     -- reach-requires
-    (λ c κs. rw (c .total .ensures) (c .before .before .before .before .before .before .pre .seen, c .before .before .before .before .before .before .pre .passed .few))
+    (λ c κs. rw (c .total .ensures) (c .before .before .before .before .before .before .before .pre .seen, c .before .before .before .before .before .before .before .pre .passed .few))
     -- sub-feed
-    (λ c. within (c .before .before .before .before .before .before .before .before .before .pre) _ (c .before .before .before .total .ensures) (c .before .before .reach .ensures) .0)
+    (λ c. within (c .before .before .before .before .before .before .before .before .before .before .pre) _ (c .before .before .before .total .ensures) (c .before .before .reach .ensures) .0)
     -- part-feed-start
-    (λ c. within (c .before .before .before .before .before .before .before .before .before .pre) _ (c .before .before .before .total .ensures) (c .before .before .reach .ensures) .0)
+    (λ c. within (c .before .before .before .before .before .before .before .before .before .before .pre) _ (c .before .before .before .total .ensures) (c .before .before .reach .ensures) .0)
     -- part-feed-end
-    (λ c. within (c .before .before .before .before .before .before .before .before .before .pre) _ (c .before .before .before .total .ensures) (c .before .before .reach .ensures) .1)
+    (λ c. within (c .before .before .before .before .before .before .before .before .before .before .pre) _ (c .before .before .before .total .ensures) (c .before .before .reach .ensures) .1)
     -- sub-feed-2
-    (λ c. within (c .before .before .before .before .before .before .before .before .before .before .pre) _ (c .before .before .before .before .total .ensures) (c .before .before .before .reach .ensures) .0)
+    (λ c. within (c .before .before .before .before .before .before .before .before .before .before .before .pre) _ (c .before .before .before .before .total .ensures) (c .before .before .before .reach .ensures) .0)
     -- part-feed-start-2
-    (λ c. within (c .before .before .before .before .before .before .before .before .before .before .pre) _ (c .before .before .before .before .total .ensures) (c .before .before .before .reach .ensures) .0)
+    (λ c. within (c .before .before .before .before .before .before .before .before .before .before .before .pre) _ (c .before .before .before .before .total .ensures) (c .before .before .before .reach .ensures) .0)
     -- part-feed-end-2
-    (λ c. le-trans (within (c .before .before .before .before .before .before .before .before .before .before .pre) _ (c .before .before .before .before .total .ensures) (c .before .before .before .reach .ensures) .1) (c .before .before .before .before .before .before .before .before .before .before .pre .passed .room))
+    (λ c. le-trans (within (c .before .before .before .before .before .before .before .before .before .before .before .pre) _ (c .before .before .before .before .total .ensures) (c .before .before .before .reach .ensures) .1) (c .before .before .before .before .before .before .before .before .before .before .before .pre .passed .room))
     -- feed-requires
-    (λ c κs. ready (c .before .before .before .before .before .before .before .before .before .before .before .pre) _ (c .before .before .before .before .before .total .ensures) (c .before .before .before .before .reach .ensures))
-    -- same-length
-    (λ c. search needs)
-    -- same-length-2
-    (λ c. search needs)
-    -- same-length-3
-    (λ c. search needs)
+    (λ c κs. ready (c .before .before .before .before .before .before .before .before .before .before .before .before .pre) _ (c .before .before .before .before .before .total .ensures) (c .before .before .before .before .reach .ensures))
+    -- same-length, same-length-2, same-length-3
+    (λ c. search needs) (λ c. search needs) (λ c. search needs)
     -- returns
-    (λ c. advanced (c .before .before .before .before .before .before .before .before .before .before .before .before .before .before .before .before .before .before .pre) _ (c .before .before .before .before .before .before .before .before .before .before .before .before .total .ensures) (c .before .before .before .before .before .before .before .before .before .before .before .reach .ensures) (c .before .before .before .before .before .before .feed .ensures)))
+    (λ c. advanced (c .before .before .before .before .before .before .before .before .before .before .before .before .before .before .before .before .before .before .before .pre) _ (c .before .before .before .before .before .before .before .before .before .before .before .before .total .ensures) (c .before .before .before .before .before .before .before .before .before .before .before .reach .ensures) (c .before .before .before .before .before .before .feed .ensures)))

@@ -2,8 +2,8 @@
 -- Assumes nothing.
 use mathlib.Core.Path.{refl, _∙_}
 use mathlib.Core.List.{[]}
-use Rattle.feeding.specs.Views.{runAs}
-use Rattle.clocking.specs.Machine.{beginOf}
+use Rattle.words.specs.Words.{runAs}
+use Rattle.progress.specs.Progress.{beginOf}
 use Rattle.parting.specs.Laws.{go-start, go-on, go-advancing}
 use Rattle.parting.proofs.before_data.Statement.{statement}
 use Rattle.parting.proofs.before_data.Tie as tie
@@ -12,12 +12,8 @@ pub before-data-spec : {M : Type 1} → statement M
 before-data-spec =
     tie.close
     (tie.spec
-    -- setting-requires
-    (λ c κs. tt)
-    -- begin-requires
-    (λ c κs. tt)
-    -- command-clocks-requires
-    (λ c κs. tt)
+    -- setting-requires, begin-requires, command-clocks-requires
+    (λ c κs. tt) (λ c κs. tt) (λ c κs. tt)
     -- advance-requires
     (λ c κs. rw (c .before .before .before .before .begin .ensures) (go-advancing (c .before .before .before .before .before .before .before .before .before .before .pre) (go-start {r = runAs beginOf [] []} refl)))
     -- address-clocks-requires

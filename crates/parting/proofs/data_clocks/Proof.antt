@@ -8,20 +8,8 @@ pub data-clocks-spec : {M : Type 1} → statement M
 data-clocks-spec =
     tie.close
     (tie.spec
-    -- enum-told
-    (λ c. search needs)
-    -- enum-known-b
-    (λ c. search needs)
-    -- fixed-clocks-requires
-    (λ c κs. search needs)
-    -- enum-told-2
-    (λ c. search needs)
-    -- enum-known-b-2
-    (λ c. search needs)
-    -- fixed-clocks-requires-2
-    (λ c κs. search needs)
-    -- enum-told-3
-    (λ c. search needs)
+    -- enum-told, enum-known-b, fixed-clocks-requires, enum-told-2, enum-known-b-2, fixed-clocks-requires-2, enum-told-3
+    (λ c. search needs) (λ c. search needs) (λ c κs. search needs) (λ c. search needs) (λ c. search needs) (λ c κs. search needs) (λ c. search needs)
     -- returns
     (λ c. rw (c .enum-told .given .1))
     -- returns-2

@@ -11,10 +11,8 @@ unfolding reachOf
 reach-spec =
     tie.close
     (tie.spec
-    -- sub-if1
-    (λ c. search needs)
-    -- add-result
-    (λ c. search needs)
+    -- sub-if1, add-result
+    (λ c. search needs) (λ c. search needs)
     -- returns
     (λ c. rw (lt-ltb _ _ (c .before .before .if1 .taken)))
     -- returns-2

@@ -13,11 +13,7 @@ pub share-spec : {M : Type 1} → statement M
 share-spec =
     tie.close
     (tie.spec
-    -- cast-result
-    (λ c. search needs)
-    -- mul-result
-    (λ c. search needs)
-    -- array-read-result
-    (λ c. search needs)
+    -- cast-result, mul-result, array-read-result
+    (λ c. search needs) (λ c. search needs) (λ c. search needs)
     -- returns
     (λ c. table-is shareAt (0 ∷ 1 ∷ 2 ∷ 4 ∷ 8 ∷ 16 ∷ 32 ∷ 64 ∷ []) tt (c .args .status / 4 % 8) (omega arith)))

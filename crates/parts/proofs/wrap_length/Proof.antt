@@ -14,11 +14,7 @@ pub wrap-length-spec : {M : Type 1} → statement M
 wrap-length-spec =
     tie.close
     (tie.spec
-    -- cast-t4
-    (λ c. search needs)
-    -- mul-t5
-    (λ c. search needs)
-    -- array-read-t8
-    (λ c. search needs)
+    -- cast-t4, mul-t5, array-read-t8
+    (λ c. search needs) (λ c. search needs) (λ c. search needs)
     -- returns
     (λ c. ap bytes (table-is (λ k. 16 * 2 ^ k) (16 ∷ 32 ∷ 64 ∷ 128 ∷ 256 ∷ 512 ∷ 1024 ∷ 2048 ∷ []) tt (c .args .cr3 % 8) (omega arith))))

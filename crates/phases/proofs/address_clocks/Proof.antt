@@ -13,11 +13,7 @@ address-clocks-spec =
     (λ c κs. tt)
     -- returns
     (λ c. rw (← c .before .is-stopped .ensures, c .if1 .taken))
-    -- address-of-requires
-    (λ c κs. tt)
-    -- wires-for-requires
-    (λ c κs. tt)
-    -- address-length-requires
-    (λ c κs. tt)
+    -- address-of-requires, wires-for-requires, address-length-requires
+    (λ c κs. tt) (λ c κs. tt) (λ c κs. tt)
     -- returns-2
     (λ c. rw (← c .before .before .before .before .is-stopped .ensures, c .before .before .before .if1 .left, c .address-length .ensures, c .before .wires-for .ensures, c .before .before .address-of .ensures)))

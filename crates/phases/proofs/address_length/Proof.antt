@@ -8,28 +8,8 @@ pub address-length-spec : {M : Type 1} → statement M
 address-length-spec =
     tie.close
     (tie.spec
-    -- enum-told
-    (λ c. search needs)
-    -- enum-told-2
-    (λ c. search needs)
-    -- bytes-to-clocks-requires
-    (λ c κs. search needs)
-    -- enum-told-3
-    (λ c. search needs)
-    -- bytes-to-clocks-requires-2
-    (λ c κs. search needs)
-    -- enum-told-4
-    (λ c. search needs)
-    -- bytes-to-clocks-requires-3
-    (λ c κs. search needs)
-    -- enum-told-5
-    (λ c. search needs)
-    -- bytes-to-clocks-requires-4
-    (λ c κs. search needs)
-    -- enum-told-6
-    (λ c. search needs)
-    -- bytes-to-clocks-requires-5
-    (λ c κs. search needs)
+    -- enum-told, enum-told-2, bytes-to-clocks-requires, enum-told-3, bytes-to-clocks-requires-2, enum-told-4, bytes-to-clocks-requires-3, enum-told-5, bytes-to-clocks-requires-4, enum-told-6, bytes-to-clocks-requires-5
+    (λ c. search needs) (λ c. search needs) (λ c κs. search needs) (λ c. search needs) (λ c κs. search needs) (λ c. search needs) (λ c κs. search needs) (λ c. search needs) (λ c κs. search needs) (λ c. search needs) (λ c κs. search needs)
     -- returns
     (λ c. rw (c .enum-told .given .1))
     -- returns-2

@@ -10,9 +10,7 @@ unfolding refusedAt
 refused-at-spec =
     tie.close
     (tie.spec
-    -- address-of-requires
-    (λ c κs. tt)
-    -- allowed-requires
-    (λ c κs. search needs)
+    -- address-of-requires, allowed-requires
+    (λ c κs. tt) (λ c κs. search needs)
     -- returns
     (λ c. rw (c .allowed .ensures, c .before .address-of .ensures)))

@@ -8,30 +8,12 @@ pub allowed-spec : {M : Type 1} → statement M
 allowed-spec =
     tie.close
     (tie.spec
-    -- enum-told
-    (λ c. search needs)
-    -- enum-told-2
-    (λ c. search needs)
-    -- memory-allowed-requires
-    (λ c κs. search needs)
-    -- enum-told-3
-    (λ c. search needs)
-    -- area-requires
-    (λ c κs. tt)
-    -- enum-told-4
-    (λ c. search needs)
-    -- register-at-requires
-    (λ c κs. tt)
-    -- is-mapped-requires
-    (λ c κs. tt)
-    -- enum-told-5
-    (λ c. search needs)
-    -- enum-told-6
-    (λ c. search needs)
+    -- enum-told, enum-told-2, family-requires, memory-allowed-requires, enum-told-3, area-requires, enum-told-4, register-at-requires, is-mapped-requires, enum-told-5, enum-told-6
+    (λ c. search needs) (λ c. search needs) (λ c κs. tt) (λ c κs. search needs) (λ c. search needs) (λ c κs. tt) (λ c. search needs) (λ c κs. tt) (λ c κs. tt) (λ c. search needs) (λ c. search needs)
     -- returns
-    (λ c. search needs)
+    (λ c. rw (c .enum-told .given .1))
     -- returns-2
-    (λ c. rw (c .before .enum-told2 .given .1, c .memory-allowed .ensures))
+    (λ c. rw (c .before .before .enum-told2 .given .1, c .memory-allowed .ensures, c .before .family .ensures))
     -- returns-3
     (λ c. rw (c .before .before .enum-told3 .given .1, c .before .area .ensures))
     -- returns-4
@@ -39,4 +21,4 @@ allowed-spec =
     -- returns-5
     (λ c. rw (c .enum-told5 .given .1))
     -- returns-6
-    (λ c. search needs))
+    (λ c. rw (c .enum-told6 .given .1)))

@@ -1,4 +1,4 @@
--- `places::memory_allowed` meets its contract: part M compares with its size.
+-- `places::memory_allowed` meets its contract: the MRAM compares, the PSRAM drops.
 -- Assumes nothing.
 use borrow.Author.Needs.{needs}
 use Rattle.places.proofs.memory_allowed.Statement.{statement}
@@ -8,12 +8,8 @@ pub memory-allowed-spec : {M : Type 1} → statement M
 memory-allowed-spec =
     tie.close
     (tie.spec
-    -- enum-told
-    (λ c. search needs)
-    -- memory-size-requires
-    (λ c κs. search needs)
-    -- enum-told-2
-    (λ c. search needs)
+    -- enum-told, memory-size-requires, enum-told-2
+    (λ c. search needs) (λ c κs. search needs) (λ c. search needs)
     -- returns
     (λ c. rw (c .before .before .enum-told .given .1, c .before .memory-size .ensures))
     -- returns-2

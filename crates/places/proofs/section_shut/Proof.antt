@@ -13,10 +13,8 @@ unfolding sectionShut
 section-shut-spec =
     tie.close
     (tie.spec
-    -- cast-result
-    (λ c. search needs)
-    -- shr-result
-    (λ c. search needs)
+    -- cast-result, shr-result
+    (λ c. search needs) (λ c. search needs)
     -- returns
     (λ c. refl)
     -- returns-2

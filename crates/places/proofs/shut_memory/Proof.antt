@@ -14,10 +14,8 @@ unfolding shutMemory
 shut-memory-spec =
     tie.close
     (tie.spec
-    -- memory-size-requires
-    (λ c κs. search needs)
-    -- share-requires
-    (λ c κs. tt)
+    -- memory-size-requires, share-requires
+    (λ c κs. search needs) (λ c κs. tt)
     -- mul-shut
     (λ c. rw (c .before .memory-size .ensures, c .share .ensures) (omega (arith, shut-le (c .before .before .args .n) (c .before .before .args .status), size-small (c .before .before .args .n) (c .before .before .pre))))
     -- returns

@@ -9,19 +9,9 @@ pub called-spec : {M : Type 1} → statement M
 called-spec =
     tie.close
     (tie.spec
-    -- fill-requires
-    (λ c κs. tt)
-    -- fill-requires-2
-    (λ c κs. tt)
-    -- fill-requires-3
-    (λ c κs. tt)
-    -- call-requires
-    (λ c κs. tt)
+    -- fill-requires, fill-requires-2, fill-requires-3, call-requires
+    (λ c κs. tt) (λ c κs. tt) (λ c κs. tt) (λ c κs. tt)
     -- same-length
     (λ c. c .before .before .before .before .before .before .call .kept .1 .0 ∙ c .before .before .before .before .before .before .before .before .before .before .before .before .before .before .before .before .before .before .before .before .fill .kept .1 .1 .0)
-    -- same-length-2
-    (λ c. search needs)
-    -- same-length-3
-    (λ c. search needs)
-    -- returns
-    (λ c. tt))
+    -- same-length-2, same-length-3, returns
+    (λ c. search needs) (λ c. search needs) (λ c. tt))

@@ -11,9 +11,7 @@ pub byte-at-spec : {M : Type 1} → statement M
 byte-at-spec =
     tie.close
     (tie.spec
-    -- array-read-result
-    (λ c. search needs)
-    -- returns
-    (λ c. search needs)
+    -- array-read-result, returns
+    (λ c. search needs) (λ c. search needs)
     -- returns-2
     (λ c. let l : length (c .before .args .t1) ≡ 8 = search needs in sym (List·getD-eq-default (c .before .args .t1) 0 (omega arith))))

@@ -8,12 +8,8 @@ pub latch-needed-spec : {M : Type 1} → statement M
 latch-needed-spec =
     tie.close
     (tie.spec
-    -- enum-told
-    (λ c. search needs)
-    -- kind-needs-requires
-    (λ c κs. tt)
-    -- enum-told-2
-    (λ c. search needs)
+    -- enum-told, kind-needs-requires, enum-told-2
+    (λ c. search needs) (λ c κs. tt) (λ c. search needs)
     -- returns
     (λ c. rw (c .before .enum-told .given .1, c .kind-needs .ensures))
     -- returns-2

@@ -9,10 +9,8 @@ pub status-shown-spec : {M : Type 1} → statement M
 status-shown-spec =
     tie.close
     (tie.spec
-    -- without-latch-requires
-    (λ c κs. tt)
-    -- add-result
-    (λ c. search needs)
+    -- without-latch-requires, add-result
+    (λ c κs. tt) (λ c. search needs)
     -- returns
     (λ c. rw (c .without-latch .ensures, c .before .if1 .taken))
     -- without-latch-requires-2

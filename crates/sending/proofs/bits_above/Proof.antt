@@ -20,14 +20,8 @@ bits-above-spec =
     (λ c. rw (c .wires-of .ensures) (omega (arith, below-few (c .before .before .args .w) _ (c .before .if1 .left))))
     -- returns-2
     (λ c. none-above (c .before .before .before .args .w) (c .before .before .before .args .below .0) _ (c .before .before .before .fits .v .fits) (rw (c .before .wires-of .ensures) at (c .if2 .taken)))
-    -- values-requires
-    (λ c κs. tt)
-    -- cast-n
-    (λ c. search needs)
-    -- cast-result
-    (λ c. search needs)
-    -- shr-result
-    (λ c. search needs)
+    -- values-requires, cast-n, cast-result, shr-result
+    (λ c κs. tt) (λ c. search needs) (λ c. search needs) (λ c. search needs)
     -- rem-result
     (λ c. rw (c .values .ensures) (pow-pos _))
     -- cast-result-2

@@ -10,11 +10,7 @@ pub put-byte-spec : {M : Type 1} → statement M
 put-byte-spec =
     tie.close
     (tie.spec
-    -- bytes-to-clocks-requires
-    (λ c κs. search needs)
-    -- put-number-requires
-    (λ c κs. tt)
-    -- same-length
-    (λ c. search needs)
+    -- bytes-to-clocks-requires, put-number-requires, same-length
+    (λ c κs. search needs) (λ c κs. tt) (λ c. search needs)
     -- returns
     (λ c. c .before .before .put-number .ensures ∙ rw (c .before .before .before .before .bytes-to-clocks .ensures, one-mul)))

@@ -13,14 +13,8 @@ unfolding turnOf
 advance-spec =
     tie.close
     (tie.spec
-    -- found-at-requires
-    (λ c κs. tt)
-    -- bytes-for-requires
-    (λ c κs. tt)
-    -- is-good-requires
-    (λ c κs. tt)
-    -- idle-requires
-    (λ c κs. tt)
+    -- found-at-requires, bytes-for-requires, is-good-requires, idle-requires
+    (λ c κs. tt) (λ c κs. tt) (λ c κs. tt) (λ c κs. tt)
     -- returns
     (λ c. rw (c .idle .ensures, ← c .before .before .before .before .before .before .found-at .ensures, ← c .before .before .is-good .ensures, c .before .if1 .taken))
     -- idle-requires-2
@@ -39,13 +33,7 @@ advance-spec =
     (λ c. search needs)
     -- slice-aggregate-play-at-2
     (λ c. sym (length-take-le _ _ (c .before .before .if3 .left)))
-    -- play-at-requires
-    (λ c κs. tt)
-    -- same-length
-    (λ c. search needs)
-    -- same-length-2
-    (λ c. search needs)
-    -- same-length-3
-    (λ c. search needs)
+    -- play-at-requires, same-length, same-length-2, same-length-3
+    (λ c κs. tt) (λ c. search needs) (λ c. search needs) (λ c. search needs)
     -- returns-4
     (λ c. rw (← c .before .before .before .before .before .before .before .before .before .before .before .before .before .before .before .before .before .before .found-at .ensures, ← c .before .before .before .before .before .before .before .before .before .before .before .before .before .before .is-good .ensures, c .before .before .before .before .before .before .before .before .before .before .before .before .before .if1 .left, ← c .before .before .before .before .before .before .before .before .before .before .before .before .before .before .before .before .before .bytes-for .ensures, le-ltb _ _ (c .before .before .before .before .before .before .before .before .before .before .before .before .if2 .left), le-ltb _ _ (c .before .before .before .before .before .before .before .before .before .before .before .if3 .left)) (ap (goneOn (c .before .before .before .before .before .before .before .before .before .before .before .before .before .before .before .before .before .before .found-at .result) _ _) (c .before .before .before .before .before .before .before .play-at .ensures))))

@@ -8,18 +8,8 @@ pub bytes-for-spec : {M : Type 1} → statement M
 bytes-for-spec =
     tie.close
     (tie.spec
-    -- enum-told
-    (λ c. search needs)
-    -- enum-told-2
-    (λ c. search needs)
-    -- enum-told-3
-    (λ c. search needs)
-    -- enum-told-4
-    (λ c. search needs)
-    -- enum-known-e
-    (λ c. search needs)
-    -- socket-of-requires
-    (λ c κs. tt)
+    -- enum-told, enum-told-2, enum-told-3, enum-told-4, enum-known-e, socket-of-requires
+    (λ c. search needs) (λ c. search needs) (λ c. search needs) (λ c. search needs) (λ c. search needs) (λ c κs. tt)
     -- returns
     (λ c. rw (c .enum-told .given .1))
     -- returns-2

@@ -7,7 +7,7 @@ pub start-spec : {M : Type 1} → statement M
 start-spec =
     tie.close
     (tie.spec
-    -- fresh-p-requires
+    -- fresh-requires
     (λ c κs. tt)
     -- returns
-    (λ c. rw (c .fresh-p .ensures)))
+    (λ c. rw (c .fresh .ensures)))

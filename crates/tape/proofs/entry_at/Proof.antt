@@ -15,37 +15,15 @@ entry-at-spec =
     (λ c κs. tt)
     -- returns
     (λ c. rw (le-leb _ _ (c .before .if1 .taken), c .nothing .ensures))
-    -- sub-if2
-    (λ c. search needs)
-    -- nothing-requires-2
-    (λ c κs. tt)
+    -- sub-if2, nothing-requires-2
+    (λ c. search needs) (λ c κs. tt)
     -- returns-2
     (λ c. rw (lt-leb _ _ (c .before .before .if1 .left), lt-ltb _ _ (c .before .if2 .taken), c .nothing2 .ensures))
-    -- word-at-requires
-    (λ c κs. search needs)
-    -- add-word-at
-    (λ c. search needs)
-    -- word-at-requires-2
-    (λ c κs. search needs)
-    -- sub-if3
-    (λ c. search needs)
-    -- sub-if3-2
-    (λ c. search needs)
-    -- nothing-requires-3
-    (λ c κs. tt)
+    -- word-at-requires, add-word-at, word-at-requires-2, sub-if3, sub-if3-2, nothing-requires-3
+    (λ c κs. search needs) (λ c. search needs) (λ c κs. search needs) (λ c. search needs) (λ c. search needs) (λ c κs. tt)
     -- returns-3
     (λ c. rw (lt-leb _ _ (c .before .before .before .before .before .if1 .left), le-ltb _ _ (c .before .before .before .before .if2 .left), ← c .before .before .before .word-at .ensures, lt-ltb _ _ (c .before .if3 .taken), c .nothing3 .ensures))
-    -- add-from
-    (λ c. search needs)
-    -- add-next
-    (λ c. search needs)
-    -- sub-entry-for
-    (λ c. search needs)
-    -- part-entry-for-start
-    (λ c. search needs)
-    -- part-entry-for-end
-    (λ c. search needs)
-    -- entry-for-requires
-    (λ c κs. tt)
+    -- add-from, add-next, sub-entry-for, part-entry-for-start, part-entry-for-end, entry-for-requires
+    (λ c. search needs) (λ c. search needs) (λ c. search needs) (λ c. search needs) (λ c. search needs) (λ c κs. tt)
     -- returns-4
     (λ c. rw (lt-leb _ _ (c .before .before .before .before .before .before .if1 .left), le-ltb _ _ (c .before .before .before .before .before .if2 .left), ← c .before .before .before .before .word-at .ensures, le-ltb _ _ (c .before .before .if3 .left), ← c .before .before .before .word-at2 .ensures, c .entry-for .ensures)))

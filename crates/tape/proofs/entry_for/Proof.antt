@@ -23,11 +23,7 @@ entry-for-spec =
     (λ c. rw (ne-eqb _ _ (c .before .before .if1 .left), ne-eqb _ _ (c .before .if3 .left), ne-eqb _ _ (c .if5 .taken)))
     -- returns-6
     (λ c. rw (ne-eqb _ _ (c .before .before .before .if1 .left), ne-eqb _ _ (c .before .before .if3 .left), c .before .if5 .left, ne-eqb _ _ (c .if6 .taken)))
-    -- shared-slice-read-fresh-entry
-    (λ c. search needs)
-    -- shared-slice-read-fresh-entry-2
-    (λ c. search needs)
-    -- fresh-entry-requires
-    (λ c κs. tt)
+    -- shared-slice-read-fresh-entry, shared-slice-read-fresh-entry-2, fresh-entry-requires
+    (λ c. search needs) (λ c. search needs) (λ c κs. tt)
     -- returns-7
     (λ c. rw (ne-eqb _ _ (c .before .before .before .before .before .before .if1 .left), ne-eqb _ _ (c .before .before .before .before .before .if3 .left), c .before .before .before .before .if5 .left, c .before .before .before .if6 .left, c .fresh-entry .ensures)))

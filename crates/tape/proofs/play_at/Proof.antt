@@ -19,13 +19,7 @@ play-at-spec =
     (λ c. rw (c .before .before .entry-at .ensures) (found-first _ _))
     -- part-play-end
     (λ c. rw (c .before .before .entry-at .ensures) (found-last _ _))
-    -- play-requires
-    (λ c κs. tt)
-    -- same-length
-    (λ c. search needs)
-    -- same-length-2
-    (λ c. search needs)
-    -- same-length-3
-    (λ c. search needs)
+    -- play-requires, same-length, same-length-2, same-length-3
+    (λ c κs. tt) (λ c. search needs) (λ c. search needs) (λ c. search needs)
     -- returns
     (λ c. rw (← c .before .before .before .before .before .before .before .before .before .before .before .entry-at .ensures) (c .before .before .before .before .before .before .play .ensures)))

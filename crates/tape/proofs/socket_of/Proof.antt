@@ -7,11 +7,7 @@ pub socket-of-spec : {M : Type 1} → statement M
 socket-of-spec =
     tie.close
     (tie.spec
-    -- of-requires
-    (λ c κs. tt)
-    -- memory-of-requires
-    (λ c κs. tt)
-    -- area-requires
-    (λ c κs. tt)
+    -- of-requires, memory-of-requires, area-requires
+    (λ c κs. tt) (λ c κs. tt) (λ c κs. tt)
     -- returns
     (λ c. rw (c .area .ensures, c .before .memory-of .ensures, c .before .before .of .ensures)))

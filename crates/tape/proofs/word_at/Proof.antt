@@ -17,10 +17,8 @@ word-at-spec =
     (λ c. search needs)
     -- cast-result
     (λ c. omega (arith, c .shared-slice-known .given (c .before .args .at)))
-    -- add-result
-    (λ c. search needs)
-    -- shared-slice-read-result-2
-    (λ c. search needs)
+    -- add-result, shared-slice-read-result-2
+    (λ c. search needs) (λ c. search needs)
     -- cast-result-2
     (λ c. omega (arith, c .before .shared-slice-known .given (c .before .before .args .at + 1)))
     -- mul-result

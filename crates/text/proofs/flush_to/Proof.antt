@@ -11,9 +11,5 @@ flush-to-spec =
     (tie.spec
     -- slice-aggregate-write-all
     (λ c. sym (length-take-le _ _ (c .before .if1 .taken)))
-    -- write-all-requires
-    (λ c κs. tt)
-    -- returns
-    (λ c. tt)
-    -- returns-2
-    (λ c. tt))
+    -- write-all-requires, returns, returns-2
+    (λ c κs. tt) (λ c. tt) (λ c. tt))

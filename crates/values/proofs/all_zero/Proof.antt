@@ -16,37 +16,23 @@ Inv-loop from a i₀ i = zeros (drop i a) ≡ zeros (drop from a)
 abbrev μ-loop : tie.MeasureT-loop
 μ-loop from a i₀ i = 8 - i
 
-loop-holds : tie.Need-loop-holds Inv-loop μ-loop
-loop-holds c = refl
-
-array-read-if1 : tie.Need-array-read-if1 Inv-loop μ-loop
-array-read-if1 c = let l : length (c .before .before .args .t1) ≡ 8 = search needs in omega arith
-
-returns : tie.Need-returns Inv-loop μ-loop
-returns c = let l : length (c .before .before .before .args .t1) ≡ 8 = search needs in sym (zeros-stop (c .before .before .before .args .t1) (c .before .before .loop .i) (omega arith) (c .if1 .taken)) ∙ c .before .before .loop .inv
-
-add-i : tie.Need-add-i Inv-loop μ-loop
-add-i c = omega arith
-
-loop-less : tie.Need-loop-less Inv-loop μ-loop
-loop-less c = omega arith
-
-loop-again : tie.Need-loop-again Inv-loop μ-loop
-loop-again c = let l : length (c .before .before .before .args .t1) ≡ 8 = search needs in zeros-on (c .before .before .before .args .t1) (c .before .before .loop .i) (omega arith) (c .if1 .left) ∙ c .before .before .loop .inv
-
-returns-2 : tie.Need-returns-2 Inv-loop μ-loop
-returns-2 c = let l : length (c .before .before .args .t1) ≡ 8 = search needs in sym (zeros-end (c .before .before .args .t1) (c .before .loop .i) (omega arith)) ∙ c .before .loop .inv
-
 pub all-zero-spec : {M : Type 1} → statement M
 all-zero-spec =
     tie.close
     (tie.spec
     Inv-loop
     μ-loop
-    loop-holds
-    array-read-if1
-    returns
-    add-i
-    loop-less
-    loop-again
-    returns-2)
+    -- loop-holds
+    (λ c. refl)
+    -- array-read-if1
+    (λ c. let l : length (c .before .before .args .t1) ≡ 8 = search needs in omega arith)
+    -- returns
+    (λ c. let l : length (c .before .before .before .args .t1) ≡ 8 = search needs in sym (zeros-stop (c .before .before .before .args .t1) (c .before .before .loop .i) (omega arith) (c .if1 .taken)) ∙ c .before .before .loop .inv)
+    -- add-i
+    (λ c. omega arith)
+    -- loop-less
+    (λ c. omega arith)
+    -- loop-again
+    (λ c. let l : length (c .before .before .before .args .t1) ≡ 8 = search needs in zeros-on (c .before .before .before .args .t1) (c .before .before .loop .i) (omega arith) (c .if1 .left) ∙ c .before .before .loop .inv)
+    -- returns-2
+    (λ c. let l : length (c .before .before .args .t1) ≡ 8 = search needs in sym (zeros-end (c .before .before .args .t1) (c .before .loop .i) (omega arith)) ∙ c .before .loop .inv))

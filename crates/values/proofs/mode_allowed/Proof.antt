@@ -12,17 +12,15 @@ unfolding modeAllowed
 mode-allowed-spec =
     tie.close
     (tie.spec
-    -- enum-told
-    (λ c. search needs)
-    -- enum-told-2
-    (λ c. search needs)
+    -- enum-told, enum-told-2
+    (λ c. search needs) (λ c. search needs)
     -- returns
-    (λ c. mode-one (c .before .args .part) (c .match .keys1))
+    (λ c. mode-one (c .before .args .family) (c .match .keys1))
     -- returns-2
     (λ c. rw (c .enum-told .given .1, c .before .before .match .keys2))
     -- returns-3
     (λ c. rw (c .enum-told2 .given .1, c .before .before .match .keys2))
     -- returns-4
-    (λ c. mode-four (c .before .args .part) (c .match .keys3))
+    (λ c. mode-four (c .before .args .family) (c .match .keys3))
     -- returns-5
-    (λ c. mode-other (c .before .args .part) (c .match .rest .0 .0 .1) (c .match .rest .0 .1) (c .match .rest .1)))
+    (λ c. mode-other (c .before .args .family) (c .match .rest .0 .0 .1) (c .match .rest .0 .1) (c .match .rest .1)))

@@ -8,68 +8,16 @@ pub reserved-spec : {M : Type 1} → statement M
 reserved-spec =
     tie.close
     (tie.spec
-    -- enum-told
-    (λ c. search needs)
-    -- array-read-status-allowed
-    (λ c. search needs)
-    -- status-allowed-requires
-    (λ c κs. tt)
-    -- enum-told-2
-    (λ c. search needs)
-    -- enum-told-3
-    (λ c. search needs)
-    -- enum-told-4
-    (λ c. search needs)
-    -- enum-told-5
-    (λ c. search needs)
-    -- enum-told-6
-    (λ c. search needs)
-    -- enum-told-7
-    (λ c. search needs)
-    -- array-read-configurations-allowed
-    (λ c. search needs)
-    -- array-read-configurations-allowed-2
-    (λ c. search needs)
-    -- array-read-configurations-allowed-3
-    (λ c. search needs)
-    -- array-read-configurations-allowed-4
-    (λ c. search needs)
-    -- configurations-allowed-requires
-    (λ c κs. tt)
-    -- enum-told-8
-    (λ c. search needs)
-    -- enum-told-9
-    (λ c. search needs)
-    -- enum-told-10
-    (λ c. search needs)
-    -- enum-told-11
-    (λ c. search needs)
-    -- array-read-mode-register-allowed
-    (λ c. search needs)
-    -- mode-register-allowed-requires
-    (λ c κs. tt)
-    -- enum-told-12
-    (λ c. search needs)
+    -- enum-told, array-read-status-allowed, status-allowed-requires, enum-told-2, enum-told-3, enum-told-4, enum-told-5, enum-told-6, enum-told-7, array-read-configurations-allowed, array-read-configurations-allowed-2, array-read-configurations-allowed-3, array-read-configurations-allowed-4, configurations-allowed-requires, enum-told-8, enum-told-9, enum-told-10, enum-told-11, array-read-mode-register-allowed, mode-register-allowed-requires, enum-told-12
+    (λ c. search needs) (λ c. search needs) (λ c κs. tt) (λ c. search needs) (λ c. search needs) (λ c. search needs) (λ c. search needs) (λ c. search needs) (λ c. search needs) (λ c. search needs) (λ c. search needs) (λ c. search needs) (λ c. search needs) (λ c κs. tt) (λ c. search needs) (λ c. search needs) (λ c. search needs) (λ c. search needs) (λ c. search needs) (λ c κs. tt) (λ c. search needs)
     -- returns
     (λ c. rw (c .before .enum-told .given .1, c .status-allowed .ensures))
-    -- returns-2
-    (λ c. search needs)
-    -- returns-3
-    (λ c. search needs)
-    -- returns-4
-    (λ c. search needs)
-    -- returns-5
-    (λ c. search needs)
-    -- returns-6
-    (λ c. search needs)
+    -- returns-2, returns-3, returns-4, returns-5, returns-6
+    (λ c. search needs) (λ c. search needs) (λ c. search needs) (λ c. search needs) (λ c. search needs)
     -- returns-7
     (λ c. rw (c .before .enum-told7 .given .1, c .configurations-allowed .ensures))
-    -- returns-8
-    (λ c. search needs)
-    -- returns-9
-    (λ c. search needs)
-    -- returns-10
-    (λ c. search needs)
+    -- returns-8, returns-9, returns-10
+    (λ c. search needs) (λ c. search needs) (λ c. search needs)
     -- returns-11
     (λ c. rw (c .before .enum-told11 .given .1, c .mode-register-allowed .ensures))
     -- returns-12

@@ -11,34 +11,8 @@ unfolding groupOf
 group-spec =
     tie.close
     (tie.spec
-    -- enum-told
-    (λ c. search needs)
-    -- sub-result
-    (λ c. search needs)
-    -- cast-result
-    (λ c. search needs)
-    -- shr-result
-    (λ c. search needs)
-    -- enum-told-2
-    (λ c. search needs)
-    -- sub-result-2
-    (λ c. search needs)
-    -- mul-result
-    (λ c. search needs)
-    -- cast-result-2
-    (λ c. search needs)
-    -- shr-result-2
-    (λ c. search needs)
-    -- enum-told-3
-    (λ c. search needs)
-    -- sub-result-3
-    (λ c. search needs)
-    -- mul-result-2
-    (λ c. search needs)
-    -- cast-result-3
-    (λ c. search needs)
-    -- shr-result-3
-    (λ c. search needs)
+    -- enum-told, sub-result, cast-result, shr-result, enum-told-2, sub-result-2, mul-result, cast-result-2, shr-result-2, enum-told-3, sub-result-3, mul-result-2, cast-result-3, shr-result-3
+    (λ c. search needs) (λ c. search needs) (λ c. search needs) (λ c. search needs) (λ c. search needs) (λ c. search needs) (λ c. search needs) (λ c. search needs) (λ c. search needs) (λ c. search needs) (λ c. search needs) (λ c. search needs) (λ c. search needs) (λ c. search needs)
     -- returns
     (λ c. rw (c .before .enum-told .given .1, one-mul))
     -- returns-2

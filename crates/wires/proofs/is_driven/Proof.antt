@@ -7,9 +7,7 @@ pub is-driven-spec : {M : Type 1} → statement M
 is-driven-spec =
     tie.close
     (tie.spec
-    -- seen-requires
-    (λ c κs. tt)
-    -- level-requires
-    (λ c κs. tt)
+    -- seen-requires, level-requires
+    (λ c κs. tt) (λ c κs. tt)
     -- returns
     (λ c. rw (c .level .ensures, c .before .seen .ensures)))

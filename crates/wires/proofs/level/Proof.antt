@@ -8,20 +8,8 @@ pub level-spec : {M : Type 1} → statement M
 level-spec =
     tie.close
     (tie.spec
-    -- enum-told
-    (λ c. search needs)
-    -- mul-result
-    (λ c. search needs)
-    -- add-result
-    (λ c. search needs)
-    -- enum-told-2
-    (λ c. search needs)
-    -- add-result-2
-    (λ c. search needs)
-    -- enum-told-3
-    (λ c. search needs)
-    -- add-result-3
-    (λ c. search needs)
+    -- enum-told, mul-result, add-result, enum-told-2, add-result-2, enum-told-3, add-result-3
+    (λ c. search needs) (λ c. search needs) (λ c. search needs) (λ c. search needs) (λ c. search needs) (λ c. search needs) (λ c. search needs)
     -- returns
     (λ c. rw (c .enum-told .given .1))
     -- returns-2

@@ -12,14 +12,8 @@ unfolding shiftOf
 shift-in-spec =
     tie.close
     (tie.spec
-    -- values-requires
-    (λ c κs. tt)
-    -- cast-v
-    (λ c. search needs)
-    -- bits-requires
-    (λ c κs. tt)
-    -- cast-b
-    (λ c. search needs)
+    -- values-requires, cast-v, bits-requires, cast-b
+    (λ c κs. tt) (λ c. search needs) (λ c κs. tt) (λ c. search needs)
     -- mul-result
     (λ c. omega (arith, shift-fits (c .before .before .fits .number .fits) (c .before .values .ok)))
     -- add-result

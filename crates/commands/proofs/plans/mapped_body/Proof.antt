@@ -8,12 +8,8 @@ pub mapped-body-spec : {M : Type 1} → statement M
 mapped-body-spec =
     tie.close
     (tie.spec
-    -- enum-known-m
-    (λ c. search needs)
-    -- size-of-requires
-    (λ c κs. tt)
-    -- enum-told
-    (λ c. search needs)
+    -- enum-known-m, size-of-requires, enum-told
+    (λ c. search needs) (λ c κs. tt) (λ c. search needs)
     -- returns
     (λ c. rw (c .before .before .m .given .1, c .size-of .ensures))
     -- returns-2

@@ -11,10 +11,8 @@ pub wait-of-spec : {M : Type 1} → statement M
 wait-of-spec =
     tie.close
     (tie.spec
-    -- wait-row-requires
-    (λ c κs. tt)
-    -- cast-t7
-    (λ c. search needs)
+    -- wait-row-requires, cast-t7
+    (λ c κs. tt) (λ c. search needs)
     -- returns
     (λ c. wait-configured (c .before .before .args .k) (c .before .before .args .w) (c .before .before .args .cr2) (sym (c .before .wait-row .ensures) ∙ c .if1 .taken))
     -- mul-t9

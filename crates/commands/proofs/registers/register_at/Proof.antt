@@ -10,12 +10,8 @@ unfolding mappedOf
 register-at-spec =
     tie.close
     (tie.spec
-    -- enum-told
-    (λ c. search needs)
-    -- register-of-m-requires
-    (λ c κs. tt)
-    -- enum-told-2
-    (λ c. search needs)
+    -- enum-told, register-of-m-requires, enum-told-2
+    (λ c. search needs) (λ c κs. tt) (λ c. search needs)
     -- returns
     (λ c. rw (c .before .enum-told .given .1) (c .register-of-m .ensures))
     -- returns-2

@@ -7,9 +7,7 @@ pub burst-done-spec : {M : Type 1} → statement M
 burst-done-spec =
     tie.close
     (tie.spec
-    -- after-burst-requires
-    (λ c κs. tt)
-    -- latched-requires
-    (λ c κs. tt)
+    -- after-burst-requires, latched-requires
+    (λ c κs. tt) (λ c κs. tt)
     -- returns
     (λ c. rw (c .latched .ensures, c .before .after-burst .ensures)))

@@ -8,48 +8,8 @@ pub controlled-spec : {M : Type 1} → statement M
 controlled-spec =
     tie.close
     (tie.spec
-    -- enum-told
-    (λ c. search needs)
-    -- enum-told-2
-    (λ c. search needs)
-    -- latched-requires
-    (λ c κs. tt)
-    -- enum-told-3
-    (λ c. search needs)
-    -- latched-requires-2
-    (λ c κs. tt)
-    -- enum-told-4
-    (λ c. search needs)
-    -- in-mode-requires
-    (λ c κs. tt)
-    -- enum-told-5
-    (λ c. search needs)
-    -- in-mode-requires-2
-    (λ c κs. tt)
-    -- enum-told-6
-    (λ c. search needs)
-    -- in-mode-requires-3
-    (λ c κs. tt)
-    -- enum-told-7
-    (λ c. search needs)
-    -- asleep-requires
-    (λ c κs. tt)
-    -- enum-told-8
-    (λ c. search needs)
-    -- asleep-requires-2
-    (λ c κs. tt)
-    -- enum-told-9
-    (λ c. search needs)
-    -- armed-requires
-    (λ c κs. tt)
-    -- enum-told-10
-    (λ c. search needs)
-    -- reset-requires
-    (λ c κs. tt)
-    -- enum-told-11
-    (λ c. search needs)
-    -- toggled-requires
-    (λ c κs. tt)
+    -- enum-told, enum-told-2, latched-requires, enum-told-3, latched-requires-2, enum-told-4, in-mode-requires, enum-told-5, in-mode-requires-2, enum-told-6, in-mode-requires-3, enum-told-7, asleep-requires, enum-told-8, asleep-requires-2, enum-told-9, armed-requires, enum-told-10, reset-requires, enum-told-11, toggled-requires
+    (λ c. search needs) (λ c. search needs) (λ c κs. tt) (λ c. search needs) (λ c κs. tt) (λ c. search needs) (λ c κs. tt) (λ c. search needs) (λ c κs. tt) (λ c. search needs) (λ c κs. tt) (λ c. search needs) (λ c κs. tt) (λ c. search needs) (λ c κs. tt) (λ c. search needs) (λ c κs. tt) (λ c. search needs) (λ c κs. tt) (λ c. search needs) (λ c κs. tt)
     -- returns
     (λ c. rw (c .enum-told .given .1))
     -- returns-2

@@ -7,11 +7,7 @@ pub powered-spec : {M : Type 1} → statement M
 powered-spec =
     tie.close
     (tie.spec
-    -- reset-requires
-    (λ c κs. tt)
-    -- asleep-requires
-    (λ c κs. tt)
-    -- armed-requires
-    (λ c κs. tt)
+    -- reset-requires, asleep-requires, armed-requires
+    (λ c κs. tt) (λ c κs. tt) (λ c κs. tt)
     -- returns
     (λ c. rw (c .armed .ensures, c .before .asleep .ensures, c .before .before .reset .ensures)))

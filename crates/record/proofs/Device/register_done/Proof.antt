@@ -7,11 +7,7 @@ pub register-done-spec : {M : Type 1} → statement M
 register-done-spec =
     tie.close
     (tie.spec
-    -- after-register-requires
-    (λ c κs. tt)
-    -- written-requires
-    (λ c κs. tt)
-    -- latched-requires
-    (λ c κs. tt)
+    -- after-register-requires, written-requires, latched-requires
+    (λ c κs. tt) (λ c κs. tt) (λ c κs. tt)
     -- returns
     (λ c. rw (c .latched .ensures, c .before .written .ensures, c .before .before .after-register .ensures)))

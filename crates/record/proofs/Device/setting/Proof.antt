@@ -7,9 +7,7 @@ pub setting-spec : {M : Type 1} → statement M
 setting-spec =
     tie.close
     (tie.spec
-    -- of-requires
-    (λ c κs. tt)
-    -- mode-wires-requires
-    (λ c κs. tt)
+    -- of-requires, mode-wires-requires
+    (λ c κs. tt) (λ c κs. tt)
     -- returns
     (λ c. rw (c .mode-wires .ensures, c .before .of .ensures)))

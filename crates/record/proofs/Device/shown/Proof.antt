@@ -8,32 +8,8 @@ pub shown-spec : {M : Type 1} → statement M
 shown-spec =
     tie.close
     (tie.spec
-    -- enum-told
-    (λ c. search needs)
-    -- status-shown-requires
-    (λ c κs. tt)
-    -- enum-told-2
-    (λ c. search needs)
-    -- enum-told-3
-    (λ c. search needs)
-    -- enum-told-4
-    (λ c. search needs)
-    -- enum-told-5
-    (λ c. search needs)
-    -- enum-told-6
-    (λ c. search needs)
-    -- enum-told-7
-    (λ c. search needs)
-    -- enum-told-8
-    (λ c. search needs)
-    -- enum-told-9
-    (λ c. search needs)
-    -- enum-told-10
-    (λ c. search needs)
-    -- enum-told-11
-    (λ c. search needs)
-    -- enum-told-12
-    (λ c. search needs)
+    -- enum-told, status-shown-requires, enum-told-2, enum-told-3, enum-told-4, enum-told-5, enum-told-6, enum-told-7, enum-told-8, enum-told-9, enum-told-10, enum-told-11, enum-told-12
+    (λ c. search needs) (λ c κs. tt) (λ c. search needs) (λ c. search needs) (λ c. search needs) (λ c. search needs) (λ c. search needs) (λ c. search needs) (λ c. search needs) (λ c. search needs) (λ c. search needs) (λ c. search needs) (λ c. search needs)
     -- returns
     (λ c. rw (c .before .enum-told .given .1, c .status-shown .ensures))
     -- returns-2

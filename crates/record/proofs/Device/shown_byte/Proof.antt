@@ -7,9 +7,7 @@ pub shown-byte-spec : {M : Type 1} → statement M
 shown-byte-spec =
     tie.close
     (tie.spec
-    -- shown-requires
-    (λ c κs. tt)
-    -- byte-at-requires
-    (λ c κs. tt)
+    -- shown-requires, byte-at-requires
+    (λ c κs. tt) (λ c κs. tt)
     -- returns
     (λ c. rw (c .byte-at .ensures, c .before .shown .ensures)))

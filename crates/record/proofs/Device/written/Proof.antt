@@ -8,46 +8,8 @@ pub written-spec : {M : Type 1} → statement M
 written-spec =
     tie.close
     (tie.spec
-    -- enum-told
-    (λ c. search needs)
-    -- array-read-without-latch
-    (λ c. search needs)
-    -- without-latch-requires
-    (λ c κs. tt)
-    -- enum-told-2
-    (λ c. search needs)
-    -- array-read-self
-    (λ c. search needs)
-    -- enum-told-3
-    (λ c. search needs)
-    -- enum-told-4
-    (λ c. search needs)
-    -- enum-told-5
-    (λ c. search needs)
-    -- enum-told-6
-    (λ c. search needs)
-    -- enum-told-7
-    (λ c. search needs)
-    -- array-read-self-2
-    (λ c. search needs)
-    -- array-read-self-3
-    (λ c. search needs)
-    -- array-read-self-4
-    (λ c. search needs)
-    -- array-read-self-5
-    (λ c. search needs)
-    -- enum-told-8
-    (λ c. search needs)
-    -- enum-told-9
-    (λ c. search needs)
-    -- enum-told-10
-    (λ c. search needs)
-    -- enum-told-11
-    (λ c. search needs)
-    -- array-read-self-6
-    (λ c. search needs)
-    -- enum-told-12
-    (λ c. search needs)
+    -- enum-told, array-read-without-latch, without-latch-requires, enum-told-2, array-read-self, enum-told-3, enum-told-4, enum-told-5, enum-told-6, enum-told-7, array-read-self-2, array-read-self-3, array-read-self-4, array-read-self-5, enum-told-8, enum-told-9, enum-told-10, enum-told-11, array-read-self-6, enum-told-12
+    (λ c. search needs) (λ c. search needs) (λ c κs. tt) (λ c. search needs) (λ c. search needs) (λ c. search needs) (λ c. search needs) (λ c. search needs) (λ c. search needs) (λ c. search needs) (λ c. search needs) (λ c. search needs) (λ c. search needs) (λ c. search needs) (λ c. search needs) (λ c. search needs) (λ c. search needs) (λ c. search needs) (λ c. search needs) (λ c. search needs)
     -- returns
     (λ c. rw (c .before .before .enum-told .given .1, c .before .without-latch .ensures))
     -- returns-2
