@@ -19,6 +19,7 @@ use Rattle.opcodes.specs.declared.Target.{Target}
 use Rattle.opcodes.specs.declared.Target.the-variants as Into
 use Rattle.opcodes.specs.declared.Kind.{Kind}
 use Rattle.opcodes.specs.declared.Kind.the-variants.{Unknown, Plain, Read, Write}
+use Rattle.opcodes.specs.Kinds.{unknown}
 use Rattle.commands.specs.declared.plans.Body.{Body}
 use Rattle.commands.specs.declared.plans.Body.the-variants.{Nothing, FixedRead, AnyRead, FixedWrite, AnyWrite}
 use Rattle.commands.specs.Plans.{readBody, bodyOf}
@@ -29,7 +30,7 @@ use Rattle.record.specs.Devices.{settingOf, aimOf}
 use Rattle.record.specs.Latches.{kindNeeds}
 use Rattle.record.specs.Laws.{no-latch}
 use Rattle.record.specs.Answers.{isDone}
-use Rattle.paper.specs.InForce.{unknown, asleepFor, refusedAt, stopped, decided, commandClocks, addressClocks, bodyFor, wiresFor}
+use Rattle.paper.specs.InForce.{asleepFor, refusedAt, stopped, decided, commandClocks, addressClocks, bodyFor, wiresFor}
 use Rattle.paper.specs.Reading.{Parts, many, bytesIn, dataBytes}
 use Rattle.paper.specs.Storing.{Lent, storeByte, takeAll}
 use Rattle.paper.specs.Driving.{drivenAt, along}

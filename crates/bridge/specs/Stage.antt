@@ -23,7 +23,7 @@ use Rattle.paper.specs.Driving.{along}
 use Rattle.paper.specs.Answers.{Facts}
 use Rattle.words.specs.Words.{Run}
 use Rattle.clocking.specs.Machine.{termsOf, fullAt, stepOf, driveOf, runOf, outsOf}
-use Rattle.running.specs.Laws.{run-append, outs-append}
+use Rattle.clocking.specs.RunLaws.{run-append, outs-append}
 use Rattle.judging.specs.Finish.{factsIn}
 
 -- what a run shows at its end: the facts, what is lent, and what was driven

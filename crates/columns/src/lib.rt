@@ -1,4 +1,5 @@
 // Columns of the lines that are held against the second program: numbers, and digests of what is too long to print.
+use counts::Counts;
 use text::put;
 use text::put_all;
 use text::put_decimal;
@@ -8,6 +9,15 @@ use text::put_hex;
 pub fn column(text: &mut [u8], at: usize, v: u64) -> usize {
     let a = put(text, at, b' ');
     put_decimal(text, a, v)
+}
+
+// The five counts, in the papers' order.
+pub fn five(text: &mut [u8], at: usize, c: Counts) -> usize {
+    let a = column(text, at, c.command.0 as u64);
+    let b = column(text, a, c.address.0 as u64);
+    let d = column(text, b, c.wait.0 as u64);
+    let e = column(text, d, c.body.0 as u64);
+    column(text, e, c.rest.0 as u64)
 }
 
 // A number in which order and length of the bytes both count.

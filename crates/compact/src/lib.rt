@@ -1,7 +1,7 @@
 // What a record left, in few characters: the chip, digests, and the driven samples.
 use columns::column;
 use columns::digest_column;
-use lines::five;
+use columns::five;
 use parts::Part;
 use record::Answer;
 use record::Device;

@@ -180,7 +180,7 @@ fn judge_in(s: Setting, armed: bool, latch: bool, p: Progress) -> Answer
     if phases::asleep_for(s, k) {
         return Answer::Asleep;
     }
-    if phases::is_unknown(k) {
+    if opcodes::is_unknown(k) {
         return Answer::Unknown;
     }
     if counts.address.0 < phases::address_clocks(s, k).0 {

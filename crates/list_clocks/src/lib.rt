@@ -61,7 +61,7 @@ fn put_command_name(page: &mut [u8], at: usize, v: View) -> usize {
     let a = put_all(page, at, b", ");
     let b = put_hex(page, a, v.opcode as u64, 2);
     let c = put_all(page, b, b" ");
-    if phases::is_unknown(k) {
+    if opcodes::is_unknown(k) {
         return put_nothing(page, c, v);
     }
     put_kind(page, c, k)

@@ -120,6 +120,13 @@ kindIn k m w = cond (inModes m w) k Unknown
 abbrev pub kindOf : Family → Wires → ℕ → Kind
 kindOf f w opcode = kindIn (entryOf f opcode .kind) (entryOf f opcode .modes) w
 
+-- no such command
+abbrev pub unknown : Kind → Bool
+unknown Unknown = true
+unknown (Plain c) = false
+unknown (Read s) = false
+unknown (Write t) = false
+
 -- both families' entries of an opcode, side by side
 abbrev pub rowOf : ℕ → Row
 rowOf opcode =

@@ -1,6 +1,6 @@
 // The decision over the opcode byte: the kind of a command for family and bus mode.
 ghost use mathlib.Core.Path.{_≡_};
-ghost use Rattle.opcodes.specs.Kinds.{rowOf, inModes, kindIn, kindOf};
+ghost use Rattle.opcodes.specs.Kinds.{rowOf, inModes, kindIn, kindOf, unknown};
 use parts::Family;
 use units::Wires;
 
@@ -415,5 +415,17 @@ pub fn kind_of(family: Family, w: Wires, opcode: u8) -> Kind
             let m = row.psram_modes;
             kind_in(k, m, w)
         }
+    }
+}
+
+// Whether there is no such command.
+pub fn is_unknown(k: Kind) -> bool
+    ensures { λ r. ⌜ r ≡ unknown k ⌝ }
+{
+    match k {
+        Kind::Unknown => true,
+        Kind::Plain(_) => false,
+        Kind::Read(_) => false,
+        Kind::Write(_) => false,
     }
 }

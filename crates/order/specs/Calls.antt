@@ -16,6 +16,7 @@ use Rattle.parts.specs.Parts.{familyOf}
 use Rattle.opcodes.specs.declared.Target.the-variants as Into
 use Rattle.opcodes.specs.declared.Kind.{Kind}
 use Rattle.opcodes.specs.declared.Kind.the-variants.{Unknown, Write}
+use Rattle.opcodes.specs.Kinds.{unknown}
 use Rattle.commands.specs.declared.plans.Body.{Body}
 use Rattle.commands.specs.declared.plans.Body.the-variants.{Nothing, FixedRead, AnyRead, FixedWrite, AnyWrite}
 use Rattle.commands.specs.Plans.{reads}
@@ -28,7 +29,7 @@ use Rattle.record.specs.Latches.{latchMissing, afterBurst}
 use Rattle.record.specs.Changes.{volatileTo, settledOf}
 use Rattle.record.specs.Answers.{isDone}
 use Rattle.values.specs.States.{validOf}
-use Rattle.paper.specs.InForce.{unknown, asleepFor, stopped, decided, commandClocks, addressClocks, waitClocks, wiresFor, bodyFor}
+use Rattle.paper.specs.InForce.{asleepFor, stopped, decided, commandClocks, addressClocks, waitClocks, wiresFor, bodyFor}
 use Rattle.paper.specs.Reading.{after, many, kindRead, dataPart, Parts, partsOf, countsIn, dataBytes}
 use Rattle.paper.specs.Laws.{data-many, along-zero}
 use Rattle.paper.specs.Storing.{Lent, allShut, storeByte, takeAll}

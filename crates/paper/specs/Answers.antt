@@ -12,6 +12,7 @@ use Rattle.opcodes.specs.declared.Register.the-variants.{ModeRegister}
 use Rattle.opcodes.specs.declared.Target.the-variants as Into
 use Rattle.opcodes.specs.declared.Kind.{Kind}
 use Rattle.opcodes.specs.declared.Kind.the-variants as Kinds
+use Rattle.opcodes.specs.Kinds.{unknown}
 use Rattle.commands.specs.declared.plans.Body.{Body}
 use Rattle.commands.specs.declared.plans.Body.the-variants.{Nothing, FixedRead, AnyRead, FixedWrite, AnyWrite}
 use Rattle.progress.specs.declared.Tally.{Tally}
@@ -24,7 +25,7 @@ use Rattle.record.specs.declared.Aim.{Aim}
 use Rattle.record.specs.Devices.{settingOf, aimOf}
 use Rattle.record.specs.Latches.{latchMissing}
 use Rattle.values.specs.Values.{reservedOf}
-use Rattle.paper.specs.InForce.{unknown, asleepFor, refusedAt, commandClocks, addressClocks, bodyFor, wiresFor}
+use Rattle.paper.specs.InForce.{asleepFor, refusedAt, commandClocks, addressClocks, bodyFor, wiresFor}
 use Rattle.paper.specs.Storing.{allShut}
 use Rattle.paper.specs.Table.{Table, answerBy}
 

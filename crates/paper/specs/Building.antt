@@ -15,7 +15,7 @@ use Rattle.opcodes.specs.declared.Source.{Source}
 use Rattle.opcodes.specs.declared.Source.the-variants as From
 use Rattle.opcodes.specs.declared.Kind.{Kind}
 use Rattle.opcodes.specs.declared.Kind.the-variants as Kinds
-use Rattle.opcodes.specs.Kinds.{kindOf}
+use Rattle.opcodes.specs.Kinds.{kindOf, unknown}
 use Rattle.commands.specs.declared.plans.Address.{Address}
 use Rattle.commands.specs.declared.plans.Address.the-variants.{Absent, InMemory, InArea, InMap, LowNibbleZero, Ignored}
 use Rattle.commands.specs.declared.plans.Body.{Body}
@@ -26,7 +26,7 @@ use Rattle.record.specs.declared.Answer.the-variants.{Done, Size, Short, Unknow
 use Rattle.record.specs.Devices.{modeWires}
 use Rattle.record.specs.Answers.{isDone}
 use Rattle.values.specs.States.{modeAllowed}
-use Rattle.paper.specs.InForce.{addressLength, unknown}
+use Rattle.paper.specs.InForce.{addressLength}
 use Rattle.paper.specs.Reading.{many}
 use Rattle.paper.specs.Transaction.{over}
 

@@ -10,6 +10,7 @@ use Rattle.opcodes.specs.declared.Control.{Control}
 use Rattle.opcodes.specs.declared.Control.the-variants as Controls
 use Rattle.opcodes.specs.declared.Kind.{Kind}
 use Rattle.opcodes.specs.declared.Kind.the-variants.{Unknown, Plain, Read, Write}
+use Rattle.opcodes.specs.Kinds.{unknown}
 use Rattle.commands.specs.declared.plans.Address.{Address}
 use Rattle.commands.specs.declared.plans.Address.the-variants.{Absent, InMemory, InArea, InMap, LowNibbleZero, Ignored}
 use Rattle.commands.specs.declared.plans.Body.{Body}
@@ -37,12 +38,6 @@ wakes Unknown = false
 wakes (Plain c) = wake c
 wakes (Read s) = false
 wakes (Write t) = false
-
-abbrev pub unknown : Kind → Bool
-unknown Unknown = true
-unknown (Plain c) = false
-unknown (Read s) = false
-unknown (Write t) = false
 
 -- 6: asleep, and the command does not wake
 unfoldable pub asleepFor : Setting → Kind → Bool

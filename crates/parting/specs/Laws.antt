@@ -24,7 +24,7 @@ use Rattle.clocking.specs.Machine.{termsOf, stepOf, runOf, outsOf}
 use Rattle.judging.specs.Finish.{outcomeOf, finishOf}
 use Rattle.bridge.specs.Bridge.{bridge}
 use Rattle.running.specs.Fed.{Feedable, Fed}
-use Rattle.running.specs.Laws.{run-append, outs-append, outs-length, step-one}
+use Rattle.clocking.specs.RunLaws.{run-append, outs-append, outs-length, step-one}
 use Rattle.parting.specs.Parting.{reachOf, placeOf, upcoming, Passed, Advancing, Advanced, Going}
 
 -- every clock of a run is counted

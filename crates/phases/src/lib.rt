@@ -2,7 +2,7 @@
 // whether the command is answered at all.
 ghost use mathlib.Core.Path.{_≡_};
 ghost use Prim.Native.Nat.{_≤_};
-ghost use Rattle.paper.specs.InForce.{wakes, unknown, asleepFor, refusedAt, stopped, decided, addressLength, commandClocks, wiresFor, addressClocks, waitClocks, bodyFor};
+ghost use Rattle.paper.specs.InForce.{wakes, asleepFor, refusedAt, stopped, decided, addressLength, commandClocks, wiresFor, addressClocks, waitClocks, bodyFor};
 use commands::plans::Address;
 use commands::plans::Body;
 use commands::plans::address_of;
@@ -11,6 +11,7 @@ use commands::plans::later_wires;
 use commands::plans::wait_of;
 use opcodes::Control;
 use opcodes::Kind;
+use opcodes::is_unknown;
 use record::Setting;
 use units::Bytes;
 use units::Clocks;
@@ -35,18 +36,6 @@ fn is_waking(k: Kind) -> bool
             Control::Reset => false,
             Control::Toggle => false,
         },
-        Kind::Read(_) => false,
-        Kind::Write(_) => false,
-    }
-}
-
-// Whether there is no such command.
-pub fn is_unknown(k: Kind) -> bool
-    ensures { λ r. ⌜ r ≡ unknown k ⌝ }
-{
-    match k {
-        Kind::Unknown => true,
-        Kind::Plain(_) => false,
         Kind::Read(_) => false,
         Kind::Write(_) => false,
     }

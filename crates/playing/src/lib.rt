@@ -1,6 +1,6 @@
 // The bench's lines for a tape: the header, one line a record, and the verdict.
 use columns::column;
-use lines::five;
+use columns::five;
 use lines::last_line;
 use lines::verdict;
 use parts::LARGEST_AREA;

@@ -22,7 +22,7 @@ use Rattle.wires.specs.Laws.{spread-length}
 use Rattle.parts.specs.Parts.{partOf, familyOf, knownPart}
 use Rattle.opcodes.specs.declared.Kind.{Kind}
 use Rattle.opcodes.specs.declared.Kind.the-variants as Kinds
-use Rattle.opcodes.specs.Kinds.{kindOf}
+use Rattle.opcodes.specs.Kinds.{kindOf, unknown}
 use Rattle.commands.specs.declared.plans.Address.{Address}
 use Rattle.commands.specs.declared.plans.Address.the-variants.{Absent, InMemory, InArea, InMap, LowNibbleZero, Ignored}
 use Rattle.commands.specs.declared.plans.Body.{Body}
@@ -32,7 +32,7 @@ use Rattle.commands.specs.PlanLaws.{wait-by}
 use Rattle.record.specs.declared.Setting.{Setting}
 use Rattle.values.specs.States.{modeAllowed}
 use Rattle.places.specs.Addresses.{allowedOf}
-use Rattle.paper.specs.InForce.{unknown, asleepFor, refusedAt, stopped, decided, addressLength, commandClocks, wiresFor, addressClocks, waitClocks, bodyFor}
+use Rattle.paper.specs.InForce.{asleepFor, refusedAt, stopped, decided, addressLength, commandClocks, wiresFor, addressClocks, waitClocks, bodyFor}
 use Rattle.paper.specs.Reading.{many, kindRead, addressRead, dataPart, restPart, partsOf, dataBytes}
 use Rattle.paper.specs.Answers.{shortData, longRest}
 use Rattle.paper.specs.Laws.{sent-many}
