@@ -22,57 +22,33 @@ Inv-loop tape₀ memory₀ area₀ output₀ text₀ b₀ k₀ tape memory area 
 abbrev μ-loop : tie.MeasureT-loop
 μ-loop tape₀ memory₀ area₀ output₀ text₀ b₀ k₀ tape memory area output text b k = 1000000 - k
 
-loop-holds : tie.Need-loop-holds Inv-loop μ-loop
-loop-holds c = record { tape = refl; memory = refl; area = refl; output = refl; text = refl }
-
-add-k : tie.Need-add-k Inv-loop μ-loop
-add-k c = omega (arith, c .before .loop-test .taken)
-
-tape-turn-requires : tie.Need-tape-turn-requires Inv-loop μ-loop
-tape-turn-requires c κs = tt
-
-loop-less : tie.Need-loop-less Inv-loop μ-loop
-loop-less c = omega (arith, c .before .before .before .before .before .before .before .before .before .before .before .before .before .before .before .before .before .loop-test .taken)
-
-loop-again : tie.Need-loop-again Inv-loop μ-loop
-loop-again c = let i = c .before .before .before .before .before .before .before .before .before .before .before .before .before .before .before .before .before .before .loop .inv in let h = c .before .before .before .before .before .before .before .before .before .before .tape-turn .kept in record { tape = h .1 .1 .0 ∙ i .tape; memory = h .1 .1 .1 .0 ∙ i .memory; area = h .1 .1 .1 .1 .0 ∙ i .area; output = h .1 .1 .1 .1 .1 .0 ∙ i .output; text = h .1 .1 .1 .1 .1 .1 .0 ∙ i .text }
-
-flush-requires : tie.Need-flush-requires Inv-loop μ-loop
-flush-requires c κs = tt
-
-same-length : tie.Need-same-length Inv-loop μ-loop
-same-length c = c .before .before .before .loop .inv .tape
-
-same-length-2 : tie.Need-same-length-2 Inv-loop μ-loop
-same-length-2 c = c .before .before .before .loop .inv .memory
-
-same-length-3 : tie.Need-same-length-3 Inv-loop μ-loop
-same-length-3 c = c .before .before .before .loop .inv .area
-
-same-length-4 : tie.Need-same-length-4 Inv-loop μ-loop
-same-length-4 c = c .before .before .before .loop .inv .output
-
-same-length-5 : tie.Need-same-length-5 Inv-loop μ-loop
-same-length-5 c = c .before .before .before .loop .inv .text
-
-returns : tie.Need-returns Inv-loop μ-loop
-returns c = tt
-
 pub all-spec : {M : Type 1} → statement M
 all-spec =
     tie.close
     (tie.spec
     Inv-loop
     μ-loop
-    loop-holds
-    add-k
-    tape-turn-requires
-    loop-less
-    loop-again
-    flush-requires
-    same-length
-    same-length-2
-    same-length-3
-    same-length-4
-    same-length-5
-    returns)
+    -- loop-holds
+    (λ c. record { tape = refl; memory = refl; area = refl; output = refl; text = refl })
+    -- add-k
+    (λ c. omega (arith, c .before .loop-test .taken))
+    -- tape-turn-requires
+    (λ c κs. tt)
+    -- loop-less
+    (λ c. omega (arith, c .before .before .before .before .before .before .before .before .before .before .before .before .before .before .before .before .before .loop-test .taken))
+    -- loop-again
+    (λ c. let i = c .before .before .before .before .before .before .before .before .before .before .before .before .before .before .before .before .before .before .loop .inv in let h = c .before .before .before .before .before .before .before .before .before .before .tape-turn .kept in record { tape = h .1 .1 .0 ∙ i .tape; memory = h .1 .1 .1 .0 ∙ i .memory; area = h .1 .1 .1 .1 .0 ∙ i .area; output = h .1 .1 .1 .1 .1 .0 ∙ i .output; text = h .1 .1 .1 .1 .1 .1 .0 ∙ i .text })
+    -- flush-requires
+    (λ c κs. tt)
+    -- same-length
+    (λ c. c .before .before .before .loop .inv .tape)
+    -- same-length-2
+    (λ c. c .before .before .before .loop .inv .memory)
+    -- same-length-3
+    (λ c. c .before .before .before .loop .inv .area)
+    -- same-length-4
+    (λ c. c .before .before .before .loop .inv .output)
+    -- same-length-5
+    (λ c. c .before .before .before .loop .inv .text)
+    -- returns
+    (λ c. tt))

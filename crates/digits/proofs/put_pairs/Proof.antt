@@ -14,53 +14,29 @@ Inv-loop bytes₀ at word to₀ i₀ bytes to i = Pairing word (page to₀ bytes
 abbrev μ-loop : tie.MeasureT-loop
 μ-loop bytes₀ at word to₀ i₀ bytes to i = length word - i
 
-loop-holds : tie.Need-loop-holds Inv-loop μ-loop
-loop-holds c = pair-start _ _
-
-sub-pair : tie.Need-sub-pair Inv-loop μ-loop
-sub-pair c = omega (arith, c .before .loop .inv .past)
-
-shared-slice-read-pair : tie.Need-shared-slice-read-pair Inv-loop μ-loop
-shared-slice-read-pair c = omega (arith, c .before .loop-test .taken)
-
-shared-slice-read-pair-2 : tie.Need-shared-slice-read-pair-2 Inv-loop μ-loop
-shared-slice-read-pair-2 c = omega arith
-
-pair-requires : tie.Need-pair-requires Inv-loop μ-loop
-pair-requires c κs = tt
-
-put-requires : tie.Need-put-requires Inv-loop μ-loop
-put-requires c κs = tt
-
-add-i : tie.Need-add-i Inv-loop μ-loop
-add-i c = omega (arith, c .before .before .before .before .before .before .before .loop-test .taken)
-
-loop-less : tie.Need-loop-less Inv-loop μ-loop
-loop-less c = omega (arith, c .before .before .before .before .before .before .before .loop-test .taken)
-
-loop-again : tie.Need-loop-again Inv-loop μ-loop
-loop-again c = pair-turn (c .before .before .before .before .before .before .before .before .loop .inv) (c .before .before .before .before .before .before .before .loop-test .taken) (c .before .before .before .before .pair .ensures) (c .before .before .put .ensures) (c .before .before .put .kept .0)
-
-same-length : tie.Need-same-length Inv-loop μ-loop
-same-length c = c .before .loop .inv .rest .long
-
-returns : tie.Need-returns Inv-loop μ-loop
-returns c = pair-end (c .before .loop .inv) (c .loop-test .left)
-
 pub put-pairs-spec : {M : Type 1} → statement M
 put-pairs-spec =
     tie.close
     (tie.spec
     Inv-loop
     μ-loop
-    loop-holds
-    sub-pair
-    shared-slice-read-pair
-    shared-slice-read-pair-2
-    pair-requires
-    put-requires
-    add-i
-    loop-less
-    loop-again
-    same-length
-    returns)
+    -- loop-holds
+    (λ c. pair-start _ _)
+    -- sub-pair
+    (λ c. omega (arith, c .before .loop .inv .past))
+    -- shared-slice-read-pair
+    (λ c. omega (arith, c .before .loop-test .taken))
+    -- shared-slice-read-pair-2
+    (λ c. omega arith)
+    -- pair-requires, put-requires
+    (λ c κs. tt) (λ c κs. tt)
+    -- add-i
+    (λ c. omega (arith, c .before .before .before .before .before .before .before .loop-test .taken))
+    -- loop-less
+    (λ c. omega (arith, c .before .before .before .before .before .before .before .loop-test .taken))
+    -- loop-again
+    (λ c. pair-turn (c .before .before .before .before .before .before .before .before .loop .inv) (c .before .before .before .before .before .before .before .loop-test .taken) (c .before .before .before .before .pair .ensures) (c .before .before .put .ensures) (c .before .before .put .kept .0))
+    -- same-length
+    (λ c. c .before .loop .inv .rest .long)
+    -- returns
+    (λ c. pair-end (c .before .loop .inv) (c .loop-test .left)))

@@ -19,49 +19,29 @@ Inv-loop input₀ buffer₀ text₀ s₀ k₀ input buffer text s k = Same input
 abbrev μ-loop : tie.MeasureT-loop
 μ-loop input₀ buffer₀ text₀ s₀ k₀ input buffer text s k = 1000000 - k
 
-loop-holds : tie.Need-loop-holds Inv-loop μ-loop
-loop-holds c = record { input = refl; buffer = refl; text = refl }
-
-add-k : tie.Need-add-k Inv-loop μ-loop
-add-k c = omega (arith, c .before .loop-test .taken)
-
-turn-requires : tie.Need-turn-requires Inv-loop μ-loop
-turn-requires c κs = tt
-
-loop-less : tie.Need-loop-less Inv-loop μ-loop
-loop-less c = omega (arith, c .before .before .before .before .before .before .before .before .before .before .before .loop-test .taken)
-
-loop-again : tie.Need-loop-again Inv-loop μ-loop
-loop-again c = let f = c .before .before .before .before .before .before .before .before .before .before .before .before .loop .inv in let h = c .before .before .before .before .before .before .turn .kept in record { input = h .1 .1 .0 ∙ f .input; buffer = h .1 .1 .1 .0 ∙ f .buffer; text = h .1 .1 .1 .1 .0 ∙ f .text }
-
-flush-requires : tie.Need-flush-requires Inv-loop μ-loop
-flush-requires c κs = tt
-
-same-length : tie.Need-same-length Inv-loop μ-loop
-same-length c = c .before .before .before .loop .inv .input
-
-same-length-2 : tie.Need-same-length-2 Inv-loop μ-loop
-same-length-2 c = c .before .before .before .loop .inv .buffer
-
-same-length-3 : tie.Need-same-length-3 Inv-loop μ-loop
-same-length-3 c = c .before .before .before .loop .inv .text
-
-returns : tie.Need-returns Inv-loop μ-loop
-returns c = tt
-
 pub all-spec : {M : Type 1} → statement M
 all-spec =
     tie.close
     (tie.spec
     Inv-loop
     μ-loop
-    loop-holds
-    add-k
-    turn-requires
-    loop-less
-    loop-again
-    flush-requires
-    same-length
-    same-length-2
-    same-length-3
-    returns)
+    -- loop-holds
+    (λ c. record { input = refl; buffer = refl; text = refl })
+    -- add-k
+    (λ c. omega (arith, c .before .loop-test .taken))
+    -- turn-requires
+    (λ c κs. tt)
+    -- loop-less
+    (λ c. omega (arith, c .before .before .before .before .before .before .before .before .before .before .before .loop-test .taken))
+    -- loop-again
+    (λ c. let f = c .before .before .before .before .before .before .before .before .before .before .before .before .loop .inv in let h = c .before .before .before .before .before .before .turn .kept in record { input = h .1 .1 .0 ∙ f .input; buffer = h .1 .1 .1 .0 ∙ f .buffer; text = h .1 .1 .1 .1 .0 ∙ f .text })
+    -- flush-requires
+    (λ c κs. tt)
+    -- same-length
+    (λ c. c .before .before .before .loop .inv .input)
+    -- same-length-2
+    (λ c. c .before .before .before .loop .inv .buffer)
+    -- same-length-3
+    (λ c. c .before .before .before .loop .inv .text)
+    -- returns
+    (λ c. tt))

@@ -24,68 +24,37 @@ abbrev μ-loop : tie.MeasureT-loop
 μ-loop tape memory₀ area₀ output₀ memory0₀ area0₀ page₀ to st₀ k₀ memory area output memory0 area0 page st k =
     16385 - k
 
-start-requires : tie.Need-start-requires Inv-loop μ-loop
-start-requires c κs = tt
-
-loop-holds : tie.Need-loop-holds Inv-loop μ-loop
-loop-holds c = record { memory = refl; area = refl; output = refl; memory0 = refl; area0 = refl; page = refl }
-
-add-k : tie.Need-add-k Inv-loop μ-loop
-add-k c = omega (arith, c .before .loop-test .taken)
-
-turn-requires : tie.Need-turn-requires Inv-loop μ-loop
-turn-requires c κs = tt
-
-loop-less : tie.Need-loop-less Inv-loop μ-loop
-loop-less c = omega (arith, c .before .before .before .before .before .before .before .before .before .before .before .before .before .before .before .before .before .before .before .before .loop-test .taken)
-
-loop-again : tie.Need-loop-again Inv-loop μ-loop
-loop-again c =
-    let t = c .before .before .before .before .before .before .before .before .before .before .before .before .turn .kept in
-    let f = c .before .before .before .before .before .before .before .before .before .before .before .before .before .before .before .before .before .before .before .before .before .loop .inv in
-    record { memory = t .1 .1 .1 .0 ∙ f .memory; area = t .1 .1 .1 .1 .0 ∙ f .area; output = t .1 .1 .1 .1 .1 .0 ∙ f .output; memory0 = t .1 .1 .1 .1 .1 .1 .0 ∙ f .memory0; area0 = t .1 .1 .1 .1 .1 .1 .1 .0 ∙ f .area0; page = t .1 .1 .1 .1 .1 .1 .1 .1 .0 ∙ f .page }
-
-flush-requires : tie.Need-flush-requires Inv-loop μ-loop
-flush-requires c κs = tt
-
-same-length : tie.Need-same-length Inv-loop μ-loop
-same-length c = c .before .before .before .loop .inv .memory
-
-same-length-2 : tie.Need-same-length-2 Inv-loop μ-loop
-same-length-2 c = c .before .before .before .loop .inv .area
-
-same-length-3 : tie.Need-same-length-3 Inv-loop μ-loop
-same-length-3 c = c .before .before .before .loop .inv .output
-
-same-length-4 : tie.Need-same-length-4 Inv-loop μ-loop
-same-length-4 c = c .before .before .before .loop .inv .memory0
-
-same-length-5 : tie.Need-same-length-5 Inv-loop μ-loop
-same-length-5 c = c .before .before .before .loop .inv .area0
-
-same-length-6 : tie.Need-same-length-6 Inv-loop μ-loop
-same-length-6 c = c .before .before .before .loop .inv .page
-
-returns : tie.Need-returns Inv-loop μ-loop
-returns c = tt
-
 pub run-spec : {M : Type 1} → statement M
 run-spec =
     tie.close
     (tie.spec
     Inv-loop
     μ-loop
-    start-requires
-    loop-holds
-    add-k
-    turn-requires
-    loop-less
-    loop-again
-    flush-requires
-    same-length
-    same-length-2
-    same-length-3
-    same-length-4
-    same-length-5
-    same-length-6
-    returns)
+    -- start-requires
+    (λ c κs. tt)
+    -- loop-holds
+    (λ c. record { memory = refl; area = refl; output = refl; memory0 = refl; area0 = refl; page = refl })
+    -- add-k
+    (λ c. omega (arith, c .before .loop-test .taken))
+    -- turn-requires
+    (λ c κs. tt)
+    -- loop-less
+    (λ c. omega (arith, c .before .before .before .before .before .before .before .before .before .before .before .before .before .before .before .before .before .before .before .before .loop-test .taken))
+    -- loop-again
+    (λ c. let t = c .before .before .before .before .before .before .before .before .before .before .before .before .turn .kept in let f = c .before .before .before .before .before .before .before .before .before .before .before .before .before .before .before .before .before .before .before .before .before .loop .inv in record { memory = t .1 .1 .1 .0 ∙ f .memory; area = t .1 .1 .1 .1 .0 ∙ f .area; output = t .1 .1 .1 .1 .1 .0 ∙ f .output; memory0 = t .1 .1 .1 .1 .1 .1 .0 ∙ f .memory0; area0 = t .1 .1 .1 .1 .1 .1 .1 .0 ∙ f .area0; page = t .1 .1 .1 .1 .1 .1 .1 .1 .0 ∙ f .page })
+    -- flush-requires
+    (λ c κs. tt)
+    -- same-length
+    (λ c. c .before .before .before .loop .inv .memory)
+    -- same-length-2
+    (λ c. c .before .before .before .loop .inv .area)
+    -- same-length-3
+    (λ c. c .before .before .before .loop .inv .output)
+    -- same-length-4
+    (λ c. c .before .before .before .loop .inv .memory0)
+    -- same-length-5
+    (λ c. c .before .before .before .loop .inv .area0)
+    -- same-length-6
+    (λ c. c .before .before .before .loop .inv .page)
+    -- returns
+    (λ c. tt))

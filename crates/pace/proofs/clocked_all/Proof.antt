@@ -21,57 +21,33 @@ Inv-loop d repeats memory₀ area₀ samples output₀ done₀ k₀ memory area 
 abbrev μ-loop : tie.MeasureT-loop
 μ-loop d repeats memory₀ area₀ samples output₀ done₀ k₀ memory area output done k = repeats - k
 
-loop-holds : tie.Need-loop-holds Inv-loop μ-loop
-loop-holds c = record { memory = refl; area = refl; output = refl; few = omega arith }
-
-add-k : tie.Need-add-k Inv-loop μ-loop
-add-k c = omega (arith, c .loop-test .taken)
-
-clocked-requires : tie.Need-clocked-requires Inv-loop μ-loop
-clocked-requires c κs = search needs
-
-loop-less : tie.Need-loop-less Inv-loop μ-loop
-loop-less c = omega (arith, c .before .before .before .before .before .before .before .before .before .before .before .loop-test .taken)
-
-loop-again : tie.Need-loop-again Inv-loop μ-loop
-loop-again c = let f = c .before .before .before .before .before .before .before .before .before .before .before .before .loop .inv in let h = c .before .before .before .before .before .before .before .clocked .kept in record { memory = h .1 .0 ∙ f .memory; area = h .1 .1 .0 ∙ f .area; output = h .1 .1 .1 .1 .0 ∙ f .output; few = omega (arith, f .few) }
-
-add-done : tie.Need-add-done Inv-loop μ-loop
-add-done c = omega (arith, c .before .before .before .before .before .before .before .before .before .before .before .loop-test .taken, c .before .before .before .before .before .before .before .before .before .before .before .before .loop .inv .few)
-
-loop-less-2 : tie.Need-loop-less-2 Inv-loop μ-loop
-loop-less-2 c = omega (arith, c .before .before .before .before .before .before .before .before .before .before .before .loop-test .taken)
-
-loop-again-2 : tie.Need-loop-again-2 Inv-loop μ-loop
-loop-again-2 c = let f = c .before .before .before .before .before .before .before .before .before .before .before .before .loop .inv in let h = c .before .before .before .before .before .before .before .clocked .kept in record { memory = h .1 .0 ∙ f .memory; area = h .1 .1 .0 ∙ f .area; output = h .1 .1 .1 .1 .0 ∙ f .output; few = omega (arith, f .few) }
-
-same-length : tie.Need-same-length Inv-loop μ-loop
-same-length c = c .before .loop .inv .memory
-
-same-length-2 : tie.Need-same-length-2 Inv-loop μ-loop
-same-length-2 c = c .before .loop .inv .area
-
-same-length-3 : tie.Need-same-length-3 Inv-loop μ-loop
-same-length-3 c = c .before .loop .inv .output
-
-returns : tie.Need-returns Inv-loop μ-loop
-returns c = tt
-
 pub clocked-all-spec : {M : Type 1} → statement M
 clocked-all-spec =
     tie.close
     (tie.spec
     Inv-loop
     μ-loop
-    loop-holds
-    add-k
-    clocked-requires
-    loop-less
-    loop-again
-    add-done
-    loop-less-2
-    loop-again-2
-    same-length
-    same-length-2
-    same-length-3
-    returns)
+    -- loop-holds
+    (λ c. record { memory = refl; area = refl; output = refl; few = omega arith })
+    -- add-k
+    (λ c. omega (arith, c .loop-test .taken))
+    -- clocked-requires
+    (λ c κs. search needs)
+    -- loop-less
+    (λ c. omega (arith, c .before .before .before .before .before .before .before .before .before .before .before .loop-test .taken))
+    -- loop-again
+    (λ c. let f = c .before .before .before .before .before .before .before .before .before .before .before .before .loop .inv in let h = c .before .before .before .before .before .before .before .clocked .kept in record { memory = h .1 .0 ∙ f .memory; area = h .1 .1 .0 ∙ f .area; output = h .1 .1 .1 .1 .0 ∙ f .output; few = omega (arith, f .few) })
+    -- add-done
+    (λ c. omega (arith, c .before .before .before .before .before .before .before .before .before .before .before .loop-test .taken, c .before .before .before .before .before .before .before .before .before .before .before .before .loop .inv .few))
+    -- loop-less-2
+    (λ c. omega (arith, c .before .before .before .before .before .before .before .before .before .before .before .loop-test .taken))
+    -- loop-again-2
+    (λ c. let f = c .before .before .before .before .before .before .before .before .before .before .before .before .loop .inv in let h = c .before .before .before .before .before .before .before .clocked .kept in record { memory = h .1 .0 ∙ f .memory; area = h .1 .1 .0 ∙ f .area; output = h .1 .1 .1 .1 .0 ∙ f .output; few = omega (arith, f .few) })
+    -- same-length
+    (λ c. c .before .loop .inv .memory)
+    -- same-length-2
+    (λ c. c .before .loop .inv .area)
+    -- same-length-3
+    (λ c. c .before .loop .inv .output)
+    -- returns
+    (λ c. tt))

@@ -13,49 +13,29 @@ Inv-loop wires repeats driven bytes₀ done₀ k₀ bytes done k = (length bytes
 abbrev μ-loop : tie.MeasureT-loop
 μ-loop wires repeats driven bytes₀ done₀ k₀ bytes done k = repeats - k
 
-loop-holds : tie.Need-loop-holds Inv-loop μ-loop
-loop-holds c = (refl, omega arith)
-
-add-k : tie.Need-add-k Inv-loop μ-loop
-add-k c = omega (arith, c .loop-test .taken)
-
-gathered-requires : tie.Need-gathered-requires Inv-loop μ-loop
-gathered-requires c κs = tt
-
-loop-less : tie.Need-loop-less Inv-loop μ-loop
-loop-less c = omega (arith, c .before .before .before .before .before .loop-test .taken)
-
-loop-again : tie.Need-loop-again Inv-loop μ-loop
-loop-again c = (c .before .before .before .gathered .kept .1 .1 .0 ∙ c .before .before .before .before .before .before .loop .inv .0, omega (arith, c .before .before .before .before .before .before .loop .inv .1))
-
-add-done : tie.Need-add-done Inv-loop μ-loop
-add-done c = omega (arith, c .before .before .before .before .before .loop-test .taken, c .before .before .before .before .before .before .loop .inv .1)
-
-loop-less-2 : tie.Need-loop-less-2 Inv-loop μ-loop
-loop-less-2 c = omega (arith, c .before .before .before .before .before .loop-test .taken)
-
-loop-again-2 : tie.Need-loop-again-2 Inv-loop μ-loop
-loop-again-2 c = (c .before .before .before .gathered .kept .1 .1 .0 ∙ c .before .before .before .before .before .before .loop .inv .0, omega (arith, c .before .before .before .before .before .before .loop .inv .1))
-
-same-length : tie.Need-same-length Inv-loop μ-loop
-same-length c = c .before .loop .inv .0
-
-returns : tie.Need-returns Inv-loop μ-loop
-returns c = tt
-
 pub gathered-all-spec : {M : Type 1} → statement M
 gathered-all-spec =
     tie.close
     (tie.spec
     Inv-loop
     μ-loop
-    loop-holds
-    add-k
-    gathered-requires
-    loop-less
-    loop-again
-    add-done
-    loop-less-2
-    loop-again-2
-    same-length
-    returns)
+    -- loop-holds
+    (λ c. (refl, omega arith))
+    -- add-k
+    (λ c. omega (arith, c .loop-test .taken))
+    -- gathered-requires
+    (λ c κs. tt)
+    -- loop-less
+    (λ c. omega (arith, c .before .before .before .before .before .loop-test .taken))
+    -- loop-again
+    (λ c. (c .before .before .before .gathered .kept .1 .1 .0 ∙ c .before .before .before .before .before .before .loop .inv .0, omega (arith, c .before .before .before .before .before .before .loop .inv .1)))
+    -- add-done
+    (λ c. omega (arith, c .before .before .before .before .before .loop-test .taken, c .before .before .before .before .before .before .loop .inv .1))
+    -- loop-less-2
+    (λ c. omega (arith, c .before .before .before .before .before .loop-test .taken))
+    -- loop-again-2
+    (λ c. (c .before .before .before .gathered .kept .1 .1 .0 ∙ c .before .before .before .before .before .before .loop .inv .0, omega (arith, c .before .before .before .before .before .before .loop .inv .1)))
+    -- same-length
+    (λ c. c .before .loop .inv .0)
+    -- returns
+    (λ c. tt))

@@ -14,41 +14,23 @@ Inv-loop samples₀ at w v to₀ below₀ samples to below = Left (spelled w bel
 abbrev μ-loop : tie.MeasureT-loop
 μ-loop samples₀ at w v to₀ below₀ samples to below = below
 
-loop-holds : tie.Need-loop-holds Inv-loop μ-loop
-loop-holds c = none-put _ _
-
-sub-below : tie.Need-sub-below Inv-loop μ-loop
-sub-below c = omega arith
-
-bits-above-requires : tie.Need-bits-above-requires Inv-loop μ-loop
-bits-above-requires c κs = tt
-
-put-requires : tie.Need-put-requires Inv-loop μ-loop
-put-requires c κs = tt
-
-loop-less : tie.Need-loop-less Inv-loop μ-loop
-loop-less c = omega (arith, c .before .before .before .before .before .loop-test .taken)
-
-loop-again : tie.Need-loop-again Inv-loop μ-loop
-loop-again c = put-one (c .before .before .before .before .before .before .loop .inv) (spread-next _ _ _ (c .before .before .before .before .before .loop-test .taken)) (rw (c .before .before .before .before .bits-above .ensures) at (c .before .before .put .ensures)) (c .before .before .put .kept .0)
-
-same-length : tie.Need-same-length Inv-loop μ-loop
-same-length c = c .before .loop .inv .long
-
-returns : tie.Need-returns Inv-loop μ-loop
-returns c = all-put (c .before .loop .inv) (spread-none _ _ _ (c .loop-test .left))
-
 pub put-number-spec : {M : Type 1} → statement M
 put-number-spec =
     tie.close
     (tie.spec
     Inv-loop
     μ-loop
-    loop-holds
-    sub-below
-    bits-above-requires
-    put-requires
-    loop-less
-    loop-again
-    same-length
-    returns)
+    -- loop-holds
+    (λ c. none-put _ _)
+    -- sub-below
+    (λ c. omega arith)
+    -- bits-above-requires, put-requires
+    (λ c κs. tt) (λ c κs. tt)
+    -- loop-less
+    (λ c. omega (arith, c .before .before .before .before .before .loop-test .taken))
+    -- loop-again
+    (λ c. put-one (c .before .before .before .before .before .before .loop .inv) (spread-next _ _ _ (c .before .before .before .before .before .loop-test .taken)) (rw (c .before .before .before .before .bits-above .ensures) at (c .before .before .put .ensures)) (c .before .before .put .kept .0))
+    -- same-length
+    (λ c. c .before .loop .inv .long)
+    -- returns
+    (λ c. all-put (c .before .loop .inv) (spread-none _ _ _ (c .loop-test .left))))

@@ -15,37 +15,23 @@ Inv-loop samples₀ at to₀ left₀ samples to left = Left (silent (clocks left
 abbrev μ-loop : tie.MeasureT-loop
 μ-loop samples₀ at to₀ left₀ samples to left = left
 
-loop-holds : tie.Need-loop-holds Inv-loop μ-loop
-loop-holds c = none-put _ _
-
-sub-left : tie.Need-sub-left Inv-loop μ-loop
-sub-left c = omega arith
-
-put-requires : tie.Need-put-requires Inv-loop μ-loop
-put-requires c κs = tt
-
-loop-less : tie.Need-loop-less Inv-loop μ-loop
-loop-less c = omega (arith, c .before .before .before .before .loop-test .taken)
-
-loop-again : tie.Need-loop-again Inv-loop μ-loop
-loop-again c = put-one (c .before .before .before .before .before .loop .inv) (silent-next _ (c .before .before .before .before .loop-test .taken)) (c .before .before .put .ensures) (c .before .before .put .kept .0)
-
-same-length : tie.Need-same-length Inv-loop μ-loop
-same-length c = c .before .loop .inv .long
-
-returns : tie.Need-returns Inv-loop μ-loop
-returns c = all-put (c .before .loop .inv) (silent-none _ (c .loop-test .left))
-
 pub put-silent-spec : {M : Type 1} → statement M
 put-silent-spec =
     tie.close
     (tie.spec
     Inv-loop
     μ-loop
-    loop-holds
-    sub-left
-    put-requires
-    loop-less
-    loop-again
-    same-length
-    returns)
+    -- loop-holds
+    (λ c. none-put _ _)
+    -- sub-left
+    (λ c. omega arith)
+    -- put-requires
+    (λ c κs. tt)
+    -- loop-less
+    (λ c. omega (arith, c .before .before .before .before .loop-test .taken))
+    -- loop-again
+    (λ c. put-one (c .before .before .before .before .before .loop .inv) (silent-next _ (c .before .before .before .before .loop-test .taken)) (c .before .before .put .ensures) (c .before .before .put .kept .0))
+    -- same-length
+    (λ c. c .before .loop .inv .long)
+    -- returns
+    (λ c. all-put (c .before .loop .inv) (silent-none _ (c .loop-test .left))))

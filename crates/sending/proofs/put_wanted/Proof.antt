@@ -14,41 +14,25 @@ Inv-loop samples₀ at c to₀ left₀ samples to left = Left (silentTimes left�
 abbrev μ-loop : tie.MeasureT-loop
 μ-loop samples₀ at c to₀ left₀ samples to left = left
 
-bytes-to-clocks-requires : tie.Need-bytes-to-clocks-requires Inv-loop μ-loop
-bytes-to-clocks-requires c κs = search needs
-
-loop-holds : tie.Need-loop-holds Inv-loop μ-loop
-loop-holds c = none-put _ _
-
-sub-left : tie.Need-sub-left Inv-loop μ-loop
-sub-left c = omega arith
-
-put-silent-requires : tie.Need-put-silent-requires Inv-loop μ-loop
-put-silent-requires c κs = tt
-
-loop-less : tie.Need-loop-less Inv-loop μ-loop
-loop-less c = omega (arith, c .before .before .before .before .loop-test .taken)
-
-loop-again : tie.Need-loop-again Inv-loop μ-loop
-loop-again c = put-some (c .before .before .before .before .before .loop .inv) _ (times-next _ _ (c .before .before .before .before .loop-test .taken)) (c .before .before .put-silent .ensures) (c .before .before .put-silent .kept .0)
-
-same-length : tie.Need-same-length Inv-loop μ-loop
-same-length c = c .before .loop .inv .long
-
-returns : tie.Need-returns Inv-loop μ-loop
-returns c = rw (times-byte (c .before .before .before .before .args .w) _ (c .before .before .bytes-to-clocks .ensures)) at (all-put (c .before .loop .inv) (times-none _ _ (c .loop-test .left)))
-
 pub put-wanted-spec : {M : Type 1} → statement M
 put-wanted-spec =
     tie.close
     (tie.spec
     Inv-loop
     μ-loop
-    bytes-to-clocks-requires
-    loop-holds
-    sub-left
-    put-silent-requires
-    loop-less
-    loop-again
-    same-length
-    returns)
+    -- bytes-to-clocks-requires
+    (λ c κs. search needs)
+    -- loop-holds
+    (λ c. none-put _ _)
+    -- sub-left
+    (λ c. omega arith)
+    -- put-silent-requires
+    (λ c κs. tt)
+    -- loop-less
+    (λ c. omega (arith, c .before .before .before .before .loop-test .taken))
+    -- loop-again
+    (λ c. put-some (c .before .before .before .before .before .loop .inv) _ (times-next _ _ (c .before .before .before .before .loop-test .taken)) (c .before .before .put-silent .ensures) (c .before .before .put-silent .kept .0))
+    -- same-length
+    (λ c. c .before .loop .inv .long)
+    -- returns
+    (λ c. rw (times-byte (c .before .before .before .before .args .w) _ (c .before .before .bytes-to-clocks .ensures)) at (all-put (c .before .loop .inv) (times-none _ _ (c .loop-test .left)))))
