@@ -6,7 +6,8 @@ use Rattle.feeding.proofs.hold_clock.Tie as tie
 use mathlib.Core.Path.{ap}
 use native.Mathlib.Nat.{le-trans, div-le-self}
 use borrow.Author.Tests.{eq-eqb, ne-eqb}
-use Rattle.units.specs.Units.{perByte}
+use Rattle.units.specs.Units.{perByte, unfinishedOf, next}
+use Rattle.paper.specs.InForce.{wiresFor}
 use Rattle.words.specs.Words.{Taken, Held}
 use Rattle.clocking.specs.Machine.{held}
 
@@ -18,7 +19,7 @@ hold-clock-spec =
     -- wires-for-requires, shift-in-requires, add-t16, unfinished-requires
     (λ c κs. tt) (λ c κs. tt) (λ c. search needs) (λ c κs. tt)
     -- returns
-    (λ c. let h = rw (c .before .before .unfinished .ensures, c .before .before .before .before .before .before .wires-for .ensures) at (c .if1 .taken) in rw (ne-eqb _ _ h, c .before .before .before .before .shift-in .ensures, c .before .before .before .before .before .before .wires-for .ensures))
+    (λ c. let g = c .before .before .before .before .before .before .before .before .before .before .args in let h = rw (c .before .before .unfinished .ensures, c .before .before .before .before .before .before .wires-for .ensures) at (c .if1 .taken) in rw (ne-eqb (unfinishedOf (wiresFor (g .a .setting) (g .a .kind)) (next (g .t)) .0) 0 h, c .before .before .before .before .shift-in .ensures, c .before .before .before .before .before .before .wires-for .ensures))
     -- clocks-to-bytes-requires, cast-take-byte
     (λ c κs. tt) (λ c. search needs)
     -- take-byte-requires
