@@ -12,12 +12,12 @@ use borrow.Author.Tests.{ltb-true, lt-leb}
 use Rattle.units.specs.declared.Clocks.{Clocks}
 use Rattle.units.specs.declared.Wires.{Wires}
 use Rattle.units.specs.Units.{fewer}
-use Rattle.opcodes.specs.declared.Kind.the-variants.{Unknown}
+use Rattle.kinds.specs.declared.Kind.the-variants.{Unknown}
 use Rattle.commands.specs.declared.plans.Body.{Body}
 use Rattle.record.specs.declared.Device.{Device}
 use Rattle.record.specs.declared.Setting.{Setting}
 use Rattle.record.specs.Devices.{settingOf, aimOf}
-use Rattle.record.specs.Changes.{settledOf}
+use Rattle.changes.specs.Changes.{settledOf}
 use Rattle.record.specs.Answers.{isDone}
 use Rattle.paper.specs.InForce.{commandClocks, wiresFor, addressClocks, waitClocks, bodyFor}
 use Rattle.paper.specs.Reading.{first, after, many, kindRead, dataPart, Parts, partsOf, countsIn}

@@ -18,8 +18,8 @@ use Rattle.units.specs.Laws.{perByte-pos}
 use Rattle.wires.specs.Bits.{shiftOf, gatherFrom, gather}
 use Rattle.wires.specs.Laws.{gather-byte}
 use Rattle.parts.specs.Parts.{familyOf}
-use Rattle.opcodes.specs.declared.Kind.{Kind}
-use Rattle.opcodes.specs.declared.Kind.the-variants.{Unknown}
+use Rattle.kinds.specs.declared.Kind.{Kind}
+use Rattle.kinds.specs.declared.Kind.the-variants.{Unknown}
 use Rattle.opcodes.specs.Kinds.{kindOf}
 use Rattle.commands.specs.declared.plans.Body.{Body}
 use Rattle.commands.specs.declared.plans.Body.the-variants.{Nothing, FixedRead, AnyRead, FixedWrite, AnyWrite}

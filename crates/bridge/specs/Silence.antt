@@ -15,11 +15,11 @@ use Rattle.units.specs.Units.{bytes, perByte, fewer, wholeOf}
 use Rattle.units.specs.Laws.{perByte-pos}
 use Rattle.parts.specs.declared.Part.{Part}
 use Rattle.parts.specs.Parts.{familyOf}
-use Rattle.opcodes.specs.declared.Target.{Target}
-use Rattle.opcodes.specs.declared.Target.the-variants as Into
-use Rattle.opcodes.specs.declared.Kind.{Kind}
-use Rattle.opcodes.specs.declared.Kind.the-variants.{Unknown, Plain, Read, Write}
-use Rattle.opcodes.specs.Kinds.{unknown}
+use Rattle.kinds.specs.declared.Target.{Target}
+use Rattle.kinds.specs.declared.Target.the-variants as Into
+use Rattle.kinds.specs.declared.Kind.{Kind}
+use Rattle.kinds.specs.declared.Kind.the-variants.{Unknown, Plain, Read, Write}
+use Rattle.kinds.specs.Tests.{unknown}
 use Rattle.commands.specs.declared.plans.Body.{Body}
 use Rattle.commands.specs.declared.plans.Body.the-variants.{Nothing, FixedRead, AnyRead, FixedWrite, AnyWrite}
 use Rattle.commands.specs.Plans.{readBody, bodyOf}
@@ -27,8 +27,8 @@ use Rattle.record.specs.declared.Device.{Device}
 use Rattle.record.specs.declared.Setting.{Setting}
 use Rattle.record.specs.declared.Aim.{Aim}
 use Rattle.record.specs.Devices.{settingOf, aimOf}
-use Rattle.record.specs.Latches.{kindNeeds}
-use Rattle.record.specs.Laws.{no-latch}
+use Rattle.changes.specs.Latches.{kindNeeds}
+use Rattle.changes.specs.Laws.{no-latch}
 use Rattle.record.specs.Answers.{isDone}
 use Rattle.paper.specs.InForce.{asleepFor, refusedAt, stopped, decided, commandClocks, addressClocks, bodyFor, wiresFor}
 use Rattle.paper.specs.Reading.{Parts, many, bytesIn, dataBytes}

@@ -18,7 +18,7 @@ use Rattle.units.specs.Units.{clocks, perByte, clocksOf, fewer}
 use Rattle.units.specs.Laws.{perByte-le}
 use Rattle.wires.specs.Bits.{spelled}
 use Rattle.wires.specs.Laws.{spread-length}
-use Rattle.opcodes.specs.declared.Kind.{Kind}
+use Rattle.kinds.specs.declared.Kind.{Kind}
 use Rattle.commands.specs.declared.plans.Address.{Address}
 use Rattle.commands.specs.declared.plans.Address.the-variants.{Absent, InMemory, InArea, InMap, LowNibbleZero, Ignored}
 use Rattle.commands.specs.declared.plans.Body.{Body}

@@ -10,10 +10,10 @@ ghost use Rattle.paper.specs.Driving.{mappedByte, foundAt, byteRead, levelAt, d
 use commands::plans::Body;
 use commands::registers::Mapped;
 use commands::registers::register_at;
-use opcodes::Kind;
-use opcodes::Register;
-use opcodes::Source;
-use opcodes::Target;
+use kinds::Kind;
+use kinds::Register;
+use kinds::Source;
+use kinds::Target;
 use record::Aim;
 use record::Device;
 use units::Bytes;

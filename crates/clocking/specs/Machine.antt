@@ -8,7 +8,7 @@ use Rattle.units.specs.declared.Wires.{Wires}
 use Rattle.units.specs.Units.{clocks, next, atMost, atMostBytes, wholeOf, unfinishedOf}
 use Rattle.wires.specs.Bits.{shiftOf}
 use Rattle.parts.specs.Parts.{familyOf}
-use Rattle.opcodes.specs.declared.Kind.{Kind}
+use Rattle.kinds.specs.declared.Kind.{Kind}
 use Rattle.opcodes.specs.Kinds.{kindOf}
 use Rattle.commands.specs.declared.plans.Body.{Body}
 use Rattle.commands.specs.declared.plans.Body.the-variants.{Nothing, FixedRead, AnyRead, FixedWrite, AnyWrite}
@@ -23,7 +23,7 @@ use Rattle.record.specs.declared.Device.{Device}
 use Rattle.record.specs.declared.Setting.{Setting}
 use Rattle.record.specs.declared.Aim.{Aim}
 use Rattle.record.specs.Devices.{settingOf, aimOf}
-use Rattle.record.specs.Latches.{latchMissing}
+use Rattle.changes.specs.Latches.{latchMissing}
 use Rattle.paper.specs.InForce.{commandClocks, wiresFor, addressClocks, waitClocks, bodyFor}
 use Rattle.paper.specs.Storing.{storeByte, valueByte}
 use Rattle.paper.specs.Driving.{drivenAt}

@@ -9,7 +9,7 @@ use lib.ListN.{length}
 use Rattle.units.specs.Units.{clocks, atMost}
 use Rattle.wires.specs.Bits.{shiftOf}
 use Rattle.parts.specs.Parts.{familyOf}
-use Rattle.opcodes.specs.declared.Kind.{Kind}
+use Rattle.kinds.specs.declared.Kind.{Kind}
 use Rattle.opcodes.specs.Kinds.{kindOf}
 use Rattle.counts.specs.Counts.{total, commandTick, addressTick, waitTick, bodyTick}
 use Rattle.record.specs.declared.Device.{Device}

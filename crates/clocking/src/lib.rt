@@ -6,7 +6,7 @@ ghost use Prim.Native.Nat.{_<_, _≤_};
 ghost use Rattle.counts.specs.Counts.{total};
 ghost use Rattle.clocking.specs.Machine.{termsOf, fullAt, toData, toWait, toAddress, commandStep, addressStep, waitStep, restStep};
 use commands::plans::Body;
-use opcodes::Kind;
+use kinds::Kind;
 use opcodes::kind_of;
 use progress::Phase;
 use progress::Progress;

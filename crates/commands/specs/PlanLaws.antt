@@ -11,10 +11,10 @@ use lib.ListN.{length, getD, List·getD-append}
 use Rattle.units.specs.declared.Wires.{Wires}
 use Rattle.units.specs.declared.Wires.the-variants.{One, Two, Four}
 use Rattle.units.specs.Units.{clocks}
-use Rattle.opcodes.specs.declared.Reading.the-variants as Reads
-use Rattle.opcodes.specs.declared.Source.the-variants as From
-use Rattle.opcodes.specs.declared.Kind.{Kind}
-use Rattle.opcodes.specs.declared.Kind.the-variants.{Unknown, Plain, Read, Write}
+use Rattle.kinds.specs.declared.Reading.the-variants as Reads
+use Rattle.kinds.specs.declared.Source.the-variants as From
+use Rattle.kinds.specs.declared.Kind.{Kind}
+use Rattle.kinds.specs.declared.Kind.the-variants.{Unknown, Plain, Read, Write}
 use Rattle.commands.specs.Plans.{fixedWaits, waitTable, waitRow, waitsByRegister, columnOf, waitOf}
 
 pub column-lt : (w : Wires) → columnOf w < 3

@@ -10,15 +10,15 @@ use Rattle.units.specs.declared.Wires.{Wires}
 use Rattle.units.specs.declared.Wires.the-variants as On
 use Rattle.units.specs.Units.{clocks}
 use Rattle.parts.specs.declared.Part.{Part}
-use Rattle.opcodes.specs.declared.Register.the-variants.{ModeRegister, LongIdentity}
-use Rattle.opcodes.specs.declared.Reading.the-variants as Reads
-use Rattle.opcodes.specs.declared.Writing.the-variants as Writes
-use Rattle.opcodes.specs.declared.Source.{Source}
-use Rattle.opcodes.specs.declared.Source.the-variants as From
-use Rattle.opcodes.specs.declared.Target.{Target}
-use Rattle.opcodes.specs.declared.Target.the-variants as Into
-use Rattle.opcodes.specs.declared.Kind.{Kind}
-use Rattle.opcodes.specs.declared.Kind.the-variants.{Unknown, Plain, Read, Write}
+use Rattle.kinds.specs.declared.Register.the-variants.{ModeRegister, LongIdentity}
+use Rattle.kinds.specs.declared.Reading.the-variants as Reads
+use Rattle.kinds.specs.declared.Writing.the-variants as Writes
+use Rattle.kinds.specs.declared.Source.{Source}
+use Rattle.kinds.specs.declared.Source.the-variants as From
+use Rattle.kinds.specs.declared.Target.{Target}
+use Rattle.kinds.specs.declared.Target.the-variants as Into
+use Rattle.kinds.specs.declared.Kind.{Kind}
+use Rattle.kinds.specs.declared.Kind.the-variants.{Unknown, Plain, Read, Write}
 use Rattle.commands.specs.declared.registers.Mapped.{Mapped}
 use Rattle.commands.specs.declared.registers.Mapped.the-variants.{At, Nowhere}
 use Rattle.commands.specs.declared.plans.Address.{Address}

@@ -7,8 +7,8 @@ use Rattle.units.specs.declared.Bytes.{Bytes}
 use Rattle.units.specs.Units.{bytes}
 use Rattle.parts.specs.declared.Part.{Part}
 use Rattle.parts.specs.declared.Part.the-variants.{M, P}
-use Rattle.opcodes.specs.declared.Register.{Register}
-use Rattle.opcodes.specs.declared.Register.the-variants.{Status, AreaProtection, Configuration1, Configuration2, Configuration3, Configuration4, Configurations, Identity, Unique, Serial, ModeRegister, LongIdentity}
+use Rattle.kinds.specs.declared.Register.{Register}
+use Rattle.kinds.specs.declared.Register.the-variants.{Status, AreaProtection, Configuration1, Configuration2, Configuration3, Configuration4, Configurations, Identity, Unique, Serial, ModeRegister, LongIdentity}
 use Rattle.commands.specs.declared.registers.Mapped.{Mapped}
 use Rattle.commands.specs.declared.registers.Mapped.the-variants.{At, Nowhere}
 

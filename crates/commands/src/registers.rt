@@ -2,7 +2,7 @@
 ghost use mathlib.Core.Path.{_≡_};
 ghost use Rattle.commands.specs.Registers.{tablePlace, bytesOf, mappedOf};
 ghost use Rattle.parts.specs.declared.Part.the-variants.{M};
-use opcodes::Register;
+use kinds::Register;
 use parts::Part;
 use units::Bytes;
 

@@ -11,6 +11,7 @@ ghost use Rattle.clocking.specs.Machine.{byteIn, held, dataHeld, dataStep, step
 use bursts::driven_at;
 use bursts::protected_at;
 use bursts::put_at;
+use changes::latch_missing;
 use clocking::Terms;
 use commands::plans::Body;
 use commands::plans::is_write;
@@ -19,7 +20,6 @@ use progress::Progress;
 use progress::Tally;
 use record::Aim;
 use record::Device;
-use record::latch_missing;
 use units::Bytes;
 use units::Clocks;
 

@@ -8,7 +8,7 @@ use lib.ListN.{length}
 use borrow.Author.Tests.{ltb-false}
 use Rattle.basis.specs.Truth.{neither}
 use Rattle.units.specs.Units.{clocks, bytes, fewer, longest}
-use Rattle.opcodes.specs.declared.Kind.{Kind}
+use Rattle.kinds.specs.declared.Kind.{Kind}
 use Rattle.record.specs.declared.Answer.{Answer}
 use Rattle.record.specs.Devices.{modeWires}
 use Rattle.pages.specs.Page.{Page, page, putsOf}

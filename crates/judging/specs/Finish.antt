@@ -4,7 +4,7 @@ use mathlib.Core.List.{List}
 use Rattle.progress.specs.declared.Progress.{Progress}
 use Rattle.record.specs.declared.Device.{Device}
 use Rattle.record.specs.declared.Outcome.{Outcome}
-use Rattle.record.specs.Changes.{settledOf}
+use Rattle.changes.specs.Changes.{settledOf}
 use Rattle.paper.specs.Answers.{Facts, judge}
 use Rattle.paper.specs.Transaction.{World}
 use Rattle.words.specs.Words.{Run}

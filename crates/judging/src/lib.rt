@@ -8,11 +8,12 @@ ghost use Rattle.paper.specs.Table.{dataRows, answerBy};
 ghost use Rattle.paper.specs.Storing.{allShut};
 ghost use Rattle.paper.specs.Answers.{shortData, longRest, resetting, unarmed, reservedFor, shutData, tableOf};
 ghost use Rattle.judging.specs.Finish.{factsIn, outcomeOf};
+use changes::latch_missing;
 use commands::plans::Body;
-use opcodes::Control;
-use opcodes::Kind;
-use opcodes::Register;
-use opcodes::Target;
+use kinds::Control;
+use kinds::Kind;
+use kinds::Register;
+use kinds::Target;
 use parts::Part;
 use progress::Progress;
 use record::Aim;
@@ -20,7 +21,6 @@ use record::Answer;
 use record::Device;
 use record::Outcome;
 use record::Setting;
-use record::latch_missing;
 use units::Bytes;
 use units::Clocks;
 use units::Wires;
@@ -180,7 +180,7 @@ fn judge_in(s: Setting, armed: bool, latch: bool, p: Progress) -> Answer
     if phases::asleep_for(s, k) {
         return Answer::Asleep;
     }
-    if opcodes::is_unknown(k) {
+    if kinds::is_unknown(k) {
         return Answer::Unknown;
     }
     if counts.address.0 < phases::address_clocks(s, k).0 {
@@ -203,7 +203,7 @@ pub fn finish(d: Device, p: Progress) -> Outcome
     let value = tally.value;
     let counts = tally.counts;
     let answer = judge_in(s, d.volatile.armed, d.volatile.latch, p);
-    let device = d.settled(kind, value, answer);
+    let device = changes::settled(d, kind, value, answer);
     Outcome {
         answer,
         counts,

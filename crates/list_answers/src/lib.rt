@@ -1,12 +1,12 @@
 // The answer of a record, by number and name, and the rule that decides it.
 use commands::plans::Address;
 use commands::plans::address_of;
+use kinds::Kind;
+use kinds::Target;
 use list_views::View;
 use list_views::byte_at;
 use list_views::first_above;
 use list_views::sum;
-use opcodes::Kind;
-use opcodes::Target;
 use record::Answer;
 use record::answer_number;
 use text::put_all;

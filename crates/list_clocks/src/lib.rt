@@ -1,5 +1,6 @@
 // The rows on the clocks of a transaction: the bus, the five counts, and the data.
 use counts::Counts;
+use kinds::Kind;
 use list_names::put_kind;
 use list_names::put_part;
 use list_names::put_wires;
@@ -10,7 +11,6 @@ use list_views::View;
 use list_views::data_from;
 use list_views::data_till;
 use list_views::gather;
-use opcodes::Kind;
 use record::Answer;
 use text::put_all;
 use text::put_hex;
@@ -61,7 +61,7 @@ fn put_command_name(page: &mut [u8], at: usize, v: View) -> usize {
     let a = put_all(page, at, b", ");
     let b = put_hex(page, a, v.opcode as u64, 2);
     let c = put_all(page, b, b" ");
-    if opcodes::is_unknown(k) {
+    if kinds::is_unknown(k) {
         return put_nothing(page, c, v);
     }
     put_kind(page, c, k)

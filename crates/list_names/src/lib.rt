@@ -1,12 +1,12 @@
 // Names for people: parts, wires, commands. A match gives the name's number in a list, since an arm that puts text is
 // dear to prove.
-use opcodes::Control;
-use opcodes::Kind;
-use opcodes::Reading;
-use opcodes::Register;
-use opcodes::Source;
-use opcodes::Target;
-use opcodes::Writing;
+use kinds::Control;
+use kinds::Kind;
+use kinds::Reading;
+use kinds::Register;
+use kinds::Source;
+use kinds::Target;
+use kinds::Writing;
 use parts::Part;
 use text::put_word;
 use units::Wires;

@@ -1,6 +1,6 @@
 // What the clocks of a transaction say, read again from its samples for the page.
 use counts::Counts;
-use opcodes::Kind;
+use kinds::Kind;
 use record::Device;
 use record::Setting;
 use text::put;

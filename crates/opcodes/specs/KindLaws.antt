@@ -9,7 +9,7 @@ use Rattle.basis.specs.Rows.{keys, distinct, Away, Rest, look-away, away-within
 use Rattle.units.specs.declared.Wires.{Wires}
 use Rattle.parts.specs.declared.Family.{Family}
 use Rattle.parts.specs.declared.Family.the-variants.{Mram, Psram}
-use Rattle.opcodes.specs.declared.Kind.the-variants.{Unknown}
+use Rattle.kinds.specs.declared.Kind.the-variants.{Unknown}
 use Rattle.opcodes.specs.declared.Modes.the-variants.{Never}
 use Rattle.opcodes.specs.Kinds.{mramRows, psramRows, rowsOf, noEntry, entryOf, inModes, kindOf, rowOf}
 

@@ -8,14 +8,14 @@ use Rattle.units.specs.declared.Wires.{Wires}
 use Rattle.units.specs.declared.Wires.the-variants as On
 use Rattle.parts.specs.declared.Family.{Family}
 use Rattle.parts.specs.declared.Family.the-variants.{Mram, Psram}
-use Rattle.opcodes.specs.declared.Control.the-variants.{NoOperation, WriteEnable, WriteDisable, ToOne, ToTwo, ToFour, Sleep, Wake, ResetEnable, Reset, Toggle}
-use Rattle.opcodes.specs.declared.Register.the-variants.{Status, AreaProtection, Configuration1, Configuration2, Configuration3, Configuration4, Configurations, Identity, Unique, Serial}
-use Rattle.opcodes.specs.declared.Reading.the-variants as Reads
-use Rattle.opcodes.specs.declared.Writing.the-variants as Writes
-use Rattle.opcodes.specs.declared.Source.the-variants as Source
-use Rattle.opcodes.specs.declared.Target.the-variants as Target
-use Rattle.opcodes.specs.declared.Kind.{Kind}
-use Rattle.opcodes.specs.declared.Kind.the-variants.{Unknown, Plain, Read, Write}
+use Rattle.kinds.specs.declared.Control.the-variants.{NoOperation, WriteEnable, WriteDisable, ToOne, ToTwo, ToFour, Sleep, Wake, ResetEnable, Reset, Toggle}
+use Rattle.kinds.specs.declared.Register.the-variants.{Status, AreaProtection, Configuration1, Configuration2, Configuration3, Configuration4, Configurations, Identity, Unique, Serial}
+use Rattle.kinds.specs.declared.Reading.the-variants as Reads
+use Rattle.kinds.specs.declared.Writing.the-variants as Writes
+use Rattle.kinds.specs.declared.Source.the-variants as Source
+use Rattle.kinds.specs.declared.Target.the-variants as Target
+use Rattle.kinds.specs.declared.Kind.{Kind}
+use Rattle.kinds.specs.declared.Kind.the-variants.{Unknown, Plain, Read, Write}
 use Rattle.opcodes.specs.declared.Modes.{Modes}
 use Rattle.opcodes.specs.declared.Row.{Row}
 use Rattle.opcodes.specs.declared.Modes.the-variants.{Never, One, Four, OneTwo, OneFour, TwoFour, Always}
@@ -119,13 +119,6 @@ kindIn k m w = cond (inModes m w) k Unknown
 -- THE DECISION: the kind of a command for family, bus mode and opcode
 abbrev pub kindOf : Family → Wires → ℕ → Kind
 kindOf f w opcode = kindIn (entryOf f opcode .kind) (entryOf f opcode .modes) w
-
--- no such command
-abbrev pub unknown : Kind → Bool
-unknown Unknown = true
-unknown (Plain c) = false
-unknown (Read s) = false
-unknown (Write t) = false
 
 -- both families' entries of an opcode, side by side
 abbrev pub rowOf : ℕ → Row

@@ -1,80 +1,15 @@
 // The decision over the opcode byte: the kind of a command for family and bus mode.
 ghost use mathlib.Core.Path.{_≡_};
-ghost use Rattle.opcodes.specs.Kinds.{rowOf, inModes, kindIn, kindOf, unknown};
+ghost use Rattle.opcodes.specs.Kinds.{rowOf, inModes, kindIn, kindOf};
+use kinds::Control;
+use kinds::Kind;
+use kinds::Reading;
+use kinds::Register;
+use kinds::Source;
+use kinds::Target;
+use kinds::Writing;
 use parts::Family;
 use units::Wires;
-
-// A command without data.
-pub enum Control {
-    NoOperation,
-    WriteEnable,
-    WriteDisable,
-    ToOne,
-    ToTwo,
-    ToFour,
-    Sleep,
-    Wake,
-    ResetEnable,
-    Reset,
-    Toggle,
-}
-
-// What a register command reads or writes. `Configurations` is all four together; `LongIdentity` is the
-// eight bytes of the PSRAM.
-pub enum Register {
-    Status,
-    AreaProtection,
-    Configuration1,
-    Configuration2,
-    Configuration3,
-    Configuration4,
-    Configurations,
-    Identity,
-    Unique,
-    Serial,
-    ModeRegister,
-    LongIdentity,
-}
-
-// How a memory read is clocked, and a memory write.
-pub enum Reading {
-    Plain,
-    Fast,
-    Quad,
-    Wrapped,
-}
-
-pub enum Writing {
-    Plain,
-    Quad,
-}
-
-// What a command reads. The PSRAM's mode register and its identity are read with an address, so they stand
-// apart from the registers without one; `Map` is the register that an address names.
-pub enum Source {
-    Register(Register),
-    Map,
-    Mode,
-    Identity,
-    Memory(Reading),
-    Area,
-}
-
-// What a command writes.
-pub enum Target {
-    Register(Register),
-    Mode,
-    Memory(Writing),
-    Area,
-}
-
-// What a command does.
-pub enum Kind {
-    Unknown,
-    Plain(Control),
-    Read(Source),
-    Write(Target),
-}
 
 // The bus modes, by their number of wires, in which a family has an opcode.
 pub enum Modes {
@@ -415,17 +350,5 @@ pub fn kind_of(family: Family, w: Wires, opcode: u8) -> Kind
             let m = row.psram_modes;
             kind_in(k, m, w)
         }
-    }
-}
-
-// Whether there is no such command.
-pub fn is_unknown(k: Kind) -> bool
-    ensures { λ r. ⌜ r ≡ unknown k ⌝ }
-{
-    match k {
-        Kind::Unknown => true,
-        Kind::Plain(_) => false,
-        Kind::Read(_) => false,
-        Kind::Write(_) => false,
     }
 }

@@ -6,9 +6,9 @@ use mathlib.Core.Bool.{Bool, true, false, cond}
 use mathlib.Core.List.{List, [], _∷_}
 use lib.ListN.{length, set}
 use Rattle.units.specs.Units.{bytes}
-use Rattle.opcodes.specs.declared.Writing.{Writing}
-use Rattle.opcodes.specs.declared.Target.the-variants as Into
-use Rattle.opcodes.specs.declared.Kind.the-variants.{Write}
+use Rattle.kinds.specs.declared.Writing.{Writing}
+use Rattle.kinds.specs.declared.Target.the-variants as Into
+use Rattle.kinds.specs.declared.Kind.the-variants.{Write}
 use Rattle.commands.specs.declared.plans.Body.the-variants.{AnyWrite}
 use Rattle.record.specs.declared.Setting.{Setting}
 use Rattle.record.specs.declared.Aim.{Aim}

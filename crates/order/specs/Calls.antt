@@ -13,10 +13,10 @@ use borrow.Author.Tests.{le-ltb, leb-true}
 use Rattle.basis.specs.Truth.{untrue, never}
 use Rattle.units.specs.Units.{perByte, fewer, wholeOf}
 use Rattle.parts.specs.Parts.{familyOf}
-use Rattle.opcodes.specs.declared.Target.the-variants as Into
-use Rattle.opcodes.specs.declared.Kind.{Kind}
-use Rattle.opcodes.specs.declared.Kind.the-variants.{Unknown, Write}
-use Rattle.opcodes.specs.Kinds.{unknown}
+use Rattle.kinds.specs.declared.Target.the-variants as Into
+use Rattle.kinds.specs.declared.Kind.{Kind}
+use Rattle.kinds.specs.declared.Kind.the-variants.{Unknown, Write}
+use Rattle.kinds.specs.Tests.{unknown}
 use Rattle.commands.specs.declared.plans.Body.{Body}
 use Rattle.commands.specs.declared.plans.Body.the-variants.{Nothing, FixedRead, AnyRead, FixedWrite, AnyWrite}
 use Rattle.commands.specs.Plans.{reads}
@@ -25,8 +25,9 @@ use Rattle.record.specs.declared.Answer.the-variants.{Done, Protected}
 use Rattle.record.specs.declared.Device.{Device}
 use Rattle.record.specs.declared.Setting.{Setting}
 use Rattle.record.specs.Devices.{settingOf, aimOf}
-use Rattle.record.specs.Latches.{latchMissing, afterBurst}
-use Rattle.record.specs.Changes.{volatileTo, settledOf}
+use Rattle.changes.specs.Latches.{latchMissing, afterBurst}
+use Rattle.record.specs.Fields.{volatileTo}
+use Rattle.changes.specs.Changes.{settledOf}
 use Rattle.record.specs.Answers.{isDone}
 use Rattle.values.specs.States.{validOf}
 use Rattle.paper.specs.InForce.{asleepFor, stopped, decided, commandClocks, addressClocks, waitClocks, wiresFor, bodyFor}

@@ -21,15 +21,15 @@ use Rattle.parts.specs.declared.Family.the-variants.{Mram, Psram}
 use Rattle.parts.specs.declared.Part.{Part}
 use Rattle.parts.specs.declared.Part.the-variants.{M, P}
 use Rattle.parts.specs.Parts.{familyOf, knownPart, leastOf, mostOf, offered}
-use Rattle.opcodes.specs.declared.Writing.{Writing}
-use Rattle.opcodes.specs.declared.Target.the-variants as Into
-use Rattle.opcodes.specs.declared.Kind.the-variants.{Write}
+use Rattle.kinds.specs.declared.Writing.{Writing}
+use Rattle.kinds.specs.declared.Target.the-variants as Into
+use Rattle.kinds.specs.declared.Kind.the-variants.{Write}
 use Rattle.record.specs.declared.Answer.{Answer}
 use Rattle.record.specs.declared.Answer.the-variants.{Done, Protected}
 use Rattle.record.specs.declared.Device.{Device}
 use Rattle.record.specs.declared.Setting.{Setting}
 use Rattle.record.specs.Devices.{settingOf}
-use Rattle.record.specs.Latches.{writeMode, latchNeeded, latchMissing, afterBurst}
+use Rattle.changes.specs.Latches.{writeMode, latchNeeded, latchMissing, afterBurst}
 use Rattle.values.specs.States.{mramVolatile, psramVolatile, psramRegisters, psramIdentity, modeAllowed, psramValid, validFor, validOf}
 use Rattle.paper.specs.Transaction.{World, sizedFor}
 use Rattle.order.specs.Steps.{runAll, Every, every-one, every-order, any-order}

@@ -7,10 +7,10 @@ use lib.ListN.{length, getD}
 use Rattle.units.specs.Units.{bytes}
 use Rattle.parts.specs.declared.Family.the-variants.{Mram, Psram}
 use Rattle.parts.specs.Parts.{familyOf}
-use Rattle.opcodes.specs.declared.Control.the-variants.{WriteEnable}
-use Rattle.opcodes.specs.declared.Writing.{Writing}
-use Rattle.opcodes.specs.declared.Target.the-variants as Into
-use Rattle.opcodes.specs.declared.Kind.the-variants.{Plain, Write}
+use Rattle.kinds.specs.declared.Control.the-variants.{WriteEnable}
+use Rattle.kinds.specs.declared.Writing.{Writing}
+use Rattle.kinds.specs.declared.Target.the-variants as Into
+use Rattle.kinds.specs.declared.Kind.the-variants.{Plain, Write}
 use Rattle.counts.specs.declared.Counts.{Counts}
 use Rattle.record.specs.declared.Answer.{Answer}
 use Rattle.record.specs.declared.Answer.the-variants.{Done}

@@ -16,14 +16,16 @@ use Rattle.units.specs.Units.{clocksOf, byteClocks}
 use Rattle.wires.specs.Bits.{shiftOf, gatherFrom, spelled, spread, groupOf}
 use Rattle.parts.specs.declared.Part.the-variants.{M, P}
 use Rattle.parts.specs.Parts.{offered}
-use Rattle.opcodes.specs.declared.Writing.the-variants as Writes
+use Rattle.kinds.specs.declared.Writing.the-variants as Writes
 use Rattle.opcodes.specs.Kinds.{entryOf}
 use Rattle.commands.specs.Registers.{mappedOf}
 use Rattle.record.specs.Answers.{answerNumber}
 use Rattle.record.specs.Fresh.{makeOf, freshOf}
 use Rattle.record.specs.Devices.{settingOf}
-use Rattle.record.specs.Latches.{latchMissing}
-use Rattle.record.specs.Changes.{armTo, modeTo, modeRegisterTo, statusTo}
+use Rattle.changes.specs.Latches.{latchMissing}
+use Rattle.record.specs.Fields.{armTo, modeTo}
+use Rattle.record.specs.Resets.{modeRegisterTo}
+use Rattle.changes.specs.Changes.{statusTo}
 use Rattle.values.specs.Values.{statusAllowed, cr3Allowed, cr4Allowed, configurationsAllowed, modeRegisterAllowed}
 use Rattle.values.specs.States.{modeAllowed, zeros, mramRegisters, psramRegisters, mramVolatile, psramVolatile, mramIdentity, psramIdentity, validOf}
 use Rattle.places.specs.Places.{readSpan, writeSpan, placeIn}

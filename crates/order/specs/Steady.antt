@@ -9,9 +9,9 @@ use Rattle.units.specs.declared.Bytes.{Bytes}
 use Rattle.parts.specs.declared.Family.{Family}
 use Rattle.parts.specs.declared.Family.the-variants.{Mram, Psram}
 use Rattle.parts.specs.Parts.{familyOf}
-use Rattle.opcodes.specs.declared.Control.the-variants.{WriteEnable}
-use Rattle.opcodes.specs.declared.Kind.{Kind}
-use Rattle.opcodes.specs.declared.Kind.the-variants.{Plain}
+use Rattle.kinds.specs.declared.Control.the-variants.{WriteEnable}
+use Rattle.kinds.specs.declared.Kind.{Kind}
+use Rattle.kinds.specs.declared.Kind.the-variants.{Plain}
 use Rattle.commands.specs.declared.plans.Body.{Body}
 use Rattle.commands.specs.declared.plans.Body.the-variants.{Nothing}
 use Rattle.commands.specs.Plans.{reads}
@@ -19,8 +19,8 @@ use Rattle.record.specs.declared.Answer.the-variants.{Done}
 use Rattle.record.specs.declared.Device.{Device}
 use Rattle.record.specs.declared.Setting.{Setting}
 use Rattle.record.specs.Devices.{settingOf, aimOf}
-use Rattle.record.specs.Latches.{latchNeeded, latchMissing}
-use Rattle.record.specs.Changes.{settledOf}
+use Rattle.changes.specs.Latches.{latchNeeded, latchMissing}
+use Rattle.changes.specs.Changes.{settledOf}
 use Rattle.record.specs.Answers.{isDone, refuses}
 use Rattle.values.specs.States.{validOf}
 use Rattle.paper.specs.InForce.{decided, bodyFor}

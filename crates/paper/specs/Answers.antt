@@ -6,13 +6,13 @@ use Rattle.units.specs.declared.Clocks.{Clocks}
 use Rattle.units.specs.declared.Bytes.{Bytes}
 use Rattle.units.specs.declared.Wires.{Wires}
 use Rattle.units.specs.Units.{bytes, clocks, fewer, fewerBytes, wholeOf}
-use Rattle.opcodes.specs.declared.Control.{Control}
-use Rattle.opcodes.specs.declared.Control.the-variants as Controls
-use Rattle.opcodes.specs.declared.Register.the-variants.{ModeRegister}
-use Rattle.opcodes.specs.declared.Target.the-variants as Into
-use Rattle.opcodes.specs.declared.Kind.{Kind}
-use Rattle.opcodes.specs.declared.Kind.the-variants as Kinds
-use Rattle.opcodes.specs.Kinds.{unknown}
+use Rattle.kinds.specs.declared.Control.{Control}
+use Rattle.kinds.specs.declared.Control.the-variants as Controls
+use Rattle.kinds.specs.declared.Register.the-variants.{ModeRegister}
+use Rattle.kinds.specs.declared.Target.the-variants as Into
+use Rattle.kinds.specs.declared.Kind.{Kind}
+use Rattle.kinds.specs.declared.Kind.the-variants as Kinds
+use Rattle.kinds.specs.Tests.{unknown}
 use Rattle.commands.specs.declared.plans.Body.{Body}
 use Rattle.commands.specs.declared.plans.Body.the-variants.{Nothing, FixedRead, AnyRead, FixedWrite, AnyWrite}
 use Rattle.progress.specs.declared.Tally.{Tally}
@@ -23,7 +23,7 @@ use Rattle.record.specs.declared.Device.{Device}
 use Rattle.record.specs.declared.Setting.{Setting}
 use Rattle.record.specs.declared.Aim.{Aim}
 use Rattle.record.specs.Devices.{settingOf, aimOf}
-use Rattle.record.specs.Latches.{latchMissing}
+use Rattle.changes.specs.Latches.{latchMissing}
 use Rattle.values.specs.Values.{reservedOf}
 use Rattle.paper.specs.InForce.{asleepFor, refusedAt, commandClocks, addressClocks, bodyFor, wiresFor}
 use Rattle.paper.specs.Storing.{allShut}

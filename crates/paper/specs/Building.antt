@@ -11,11 +11,12 @@ use Rattle.units.specs.Units.{clocks, bytes, clocksOf, byteClocks, fewer, fewer
 use Rattle.basis.specs.Decisions.{firstOf}
 use Rattle.wires.specs.Bits.{spread}
 use Rattle.parts.specs.Parts.{partOf, familyOf, knownPart}
-use Rattle.opcodes.specs.declared.Source.{Source}
-use Rattle.opcodes.specs.declared.Source.the-variants as From
-use Rattle.opcodes.specs.declared.Kind.{Kind}
-use Rattle.opcodes.specs.declared.Kind.the-variants as Kinds
-use Rattle.opcodes.specs.Kinds.{kindOf, unknown}
+use Rattle.kinds.specs.declared.Source.{Source}
+use Rattle.kinds.specs.declared.Source.the-variants as From
+use Rattle.kinds.specs.declared.Kind.{Kind}
+use Rattle.kinds.specs.declared.Kind.the-variants as Kinds
+use Rattle.opcodes.specs.Kinds.{kindOf}
+use Rattle.kinds.specs.Tests.{unknown}
 use Rattle.commands.specs.declared.plans.Address.{Address}
 use Rattle.commands.specs.declared.plans.Address.the-variants.{Absent, InMemory, InArea, InMap, LowNibbleZero, Ignored}
 use Rattle.commands.specs.declared.plans.Body.{Body}

@@ -7,11 +7,11 @@ use Rattle.units.specs.declared.Bytes.{Bytes}
 use Rattle.units.specs.Units.{clocks, wholeOf}
 use Rattle.wires.specs.Bits.{groupOf}
 use Rattle.wires.specs.Levels.{levelOf}
-use Rattle.opcodes.specs.declared.Register.the-variants.{ModeRegister, LongIdentity}
-use Rattle.opcodes.specs.declared.Source.{Source}
-use Rattle.opcodes.specs.declared.Source.the-variants as From
-use Rattle.opcodes.specs.declared.Kind.{Kind}
-use Rattle.opcodes.specs.declared.Kind.the-variants.{Unknown, Plain, Read, Write}
+use Rattle.kinds.specs.declared.Register.the-variants.{ModeRegister, LongIdentity}
+use Rattle.kinds.specs.declared.Source.{Source}
+use Rattle.kinds.specs.declared.Source.the-variants as From
+use Rattle.kinds.specs.declared.Kind.{Kind}
+use Rattle.kinds.specs.declared.Kind.the-variants.{Unknown, Plain, Read, Write}
 use Rattle.commands.specs.declared.registers.Mapped.{Mapped}
 use Rattle.commands.specs.declared.registers.Mapped.the-variants.{At, Nowhere}
 use Rattle.commands.specs.Registers.{mappedOf}

@@ -21,8 +21,10 @@ use Rattle.record.specs.declared.Device.{Device}
 use Rattle.record.specs.Answers.{answerNumber}
 use Rattle.record.specs.Devices.{settingOf}
 use Rattle.record.specs.Fresh.{makeOf, freshOf}
-use Rattle.record.specs.Latches.{latchMissing}
-use Rattle.record.specs.Changes.{armTo, latchTo, sleepTo, modeTo, modeRegisterTo, statusTo, configurationsTo}
+use Rattle.changes.specs.Latches.{latchMissing}
+use Rattle.record.specs.Fields.{armTo, latchTo, sleepTo, modeTo}
+use Rattle.record.specs.Resets.{modeRegisterTo}
+use Rattle.changes.specs.Changes.{statusTo, configurationsTo}
 use Rattle.values.specs.Values.{statusAllowed, cr3Allowed, cr4Allowed, configurationsAllowed, modeRegisterAllowed}
 use Rattle.values.specs.States.{modeAllowed, zeros, mramRegisters, psramRegisters, mramVolatile, psramVolatile, mramIdentity, psramIdentity, validOf}
 use Rattle.places.specs.Places.{readSpan, writeSpan, placeIn}

@@ -6,11 +6,11 @@ use Rattle.units.specs.declared.Clocks.{Clocks}
 use Rattle.units.specs.declared.Bytes.{Bytes}
 use Rattle.units.specs.declared.Wires.{Wires}
 use Rattle.units.specs.Units.{clocks, bytes, clocksOf, byteClocks}
-use Rattle.opcodes.specs.declared.Control.{Control}
-use Rattle.opcodes.specs.declared.Control.the-variants as Controls
-use Rattle.opcodes.specs.declared.Kind.{Kind}
-use Rattle.opcodes.specs.declared.Kind.the-variants.{Unknown, Plain, Read, Write}
-use Rattle.opcodes.specs.Kinds.{unknown}
+use Rattle.kinds.specs.declared.Control.{Control}
+use Rattle.kinds.specs.declared.Control.the-variants as Controls
+use Rattle.kinds.specs.declared.Kind.{Kind}
+use Rattle.kinds.specs.declared.Kind.the-variants.{Unknown, Plain, Read, Write}
+use Rattle.kinds.specs.Tests.{unknown}
 use Rattle.commands.specs.declared.plans.Address.{Address}
 use Rattle.commands.specs.declared.plans.Address.the-variants.{Absent, InMemory, InArea, InMap, LowNibbleZero, Ignored}
 use Rattle.commands.specs.declared.plans.Body.{Body}

@@ -8,8 +8,8 @@ use Rattle.units.specs.declared.Wires.{Wires}
 use Rattle.units.specs.Units.{clocks, atMost, perByte, clocksOf, wholeOf}
 use Rattle.wires.specs.Bits.{gather}
 use Rattle.parts.specs.Parts.{familyOf}
-use Rattle.opcodes.specs.declared.Kind.{Kind}
-use Rattle.opcodes.specs.declared.Kind.the-variants.{Unknown}
+use Rattle.kinds.specs.declared.Kind.{Kind}
+use Rattle.kinds.specs.declared.Kind.the-variants.{Unknown}
 use Rattle.opcodes.specs.Kinds.{kindOf}
 use Rattle.counts.specs.declared.Counts.{Counts}
 use Rattle.counts.specs.Counts.{counted}

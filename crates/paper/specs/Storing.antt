@@ -8,9 +8,9 @@ use lib.ListN.{set}
 use Rattle.basis.specs.Counting.{howMany}
 use Rattle.units.specs.declared.Bytes.{Bytes}
 use Rattle.units.specs.Units.{bytes}
-use Rattle.opcodes.specs.declared.Target.the-variants as Into
-use Rattle.opcodes.specs.declared.Kind.{Kind}
-use Rattle.opcodes.specs.declared.Kind.the-variants.{Unknown, Plain, Read, Write}
+use Rattle.kinds.specs.declared.Target.the-variants as Into
+use Rattle.kinds.specs.declared.Kind.{Kind}
+use Rattle.kinds.specs.declared.Kind.the-variants.{Unknown, Plain, Read, Write}
 use Rattle.commands.specs.declared.plans.Body.{Body}
 use Rattle.commands.specs.declared.plans.Body.the-variants.{Nothing, FixedRead, AnyRead, FixedWrite, AnyWrite}
 use Rattle.record.specs.declared.Aim.{Aim}

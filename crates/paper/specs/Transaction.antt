@@ -19,7 +19,8 @@ use Rattle.record.specs.declared.Device.{Device}
 use Rattle.record.specs.declared.Setting.{Setting}
 use Rattle.record.specs.Devices.{settingOf, aimOf}
 use Rattle.record.specs.Answers.{isDone}
-use Rattle.record.specs.Changes.{settledOf, poweredOf}
+use Rattle.record.specs.Resets.{poweredOf}
+use Rattle.changes.specs.Changes.{settledOf}
 use Rattle.values.specs.States.{validOf}
 use Rattle.places.specs.Addresses.{memorySize}
 use Rattle.paper.specs.InForce.{wiresFor, bodyFor}

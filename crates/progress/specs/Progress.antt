@@ -4,8 +4,8 @@ use mathlib.Core.List.{List}
 use lib.ListN.{replicate}
 use Rattle.counts.specs.declared.Counts.{Counts}
 use Rattle.counts.specs.Counts.{noCounts}
-use Rattle.opcodes.specs.declared.Kind.{Kind}
-use Rattle.opcodes.specs.declared.Kind.the-variants.{Unknown}
+use Rattle.kinds.specs.declared.Kind.{Kind}
+use Rattle.kinds.specs.declared.Kind.the-variants.{Unknown}
 use Rattle.progress.specs.declared.Phase.{Phase}
 use Rattle.progress.specs.declared.Phase.the-variants.{Command}
 use Rattle.progress.specs.declared.Tally.{Tally}

@@ -2,7 +2,7 @@
 ghost use mathlib.Core.Path.{_≡_};
 ghost use Rattle.progress.specs.Progress.{nothingYet, counting, holding, entered, onward, beginOf};
 use counts::Counts;
-use opcodes::Kind;
+use kinds::Kind;
 
 pub enum Phase {
     Command,

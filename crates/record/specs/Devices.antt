@@ -6,7 +6,7 @@ use Rattle.units.specs.declared.Wires.{Wires}
 use Rattle.units.specs.declared.Wires.the-variants.{One, Two, Four}
 use Rattle.parts.specs.Parts.{partOf}
 use Rattle.counts.specs.Counts.{noCounts}
-use Rattle.opcodes.specs.declared.Kind.{Kind}
+use Rattle.kinds.specs.declared.Kind.{Kind}
 use Rattle.record.specs.declared.Answer.{Answer}
 use Rattle.record.specs.declared.Device.{Device}
 use Rattle.record.specs.declared.Setting.{Setting}

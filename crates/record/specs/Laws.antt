@@ -1,16 +1,13 @@
 -- Laws of the record.
 -- Assumes nothing.
 use mathlib.Core.Path.{_≡_, refl, ap}
-use mathlib.Core.Bool.{Bool, true, false}
+use mathlib.Core.Bool.{true, false}
 use Prim.Native.Nat.{ℕ}
 use mathlib.Core.List.{List}
 use Rattle.basis.specs.Truth.{untrue}
-use Rattle.parts.specs.declared.Family.{Family}
-use Rattle.parts.specs.declared.Family.the-variants.{Mram, Psram}
 use Rattle.parts.specs.declared.Part.{Part}
 use Rattle.parts.specs.declared.Part.the-variants.{M, P}
 use Rattle.parts.specs.Parts.{partOf, familyOf}
-use Rattle.opcodes.specs.declared.Kind.{Kind}
 use Rattle.record.specs.declared.Answer.{Answer}
 use Rattle.record.specs.declared.Answer.the-variants.{Done, Size, Sample, State, Short, Unknown, Asleep, Address, Latch, Protected, Reserved, Long, Unarmed}
 use Rattle.record.specs.declared.Class.{Class}
@@ -19,8 +16,8 @@ use Rattle.record.specs.declared.Make.{Make}
 use Rattle.record.specs.declared.Device.{Device}
 use Rattle.record.specs.Answers.{answerNumber, doneIn, refusedIn, declinedIn, refuses, refusing}
 use Rattle.record.specs.Fresh.{freshRegisters, freshVolatile, freshIdentity, freshOf}
-use Rattle.record.specs.Latches.{kindNeeds, latchMissing}
-use Rattle.record.specs.Changes.{armTo, sleepTo, resetFor, resetOf, poweredOf}
+use Rattle.record.specs.Fields.{armTo, sleepTo}
+use Rattle.record.specs.Resets.{resetFor, resetOf, poweredOf}
 
 module _ (m : Make) (device unique : List ℕ) where
   abbrev new : Part → Device
@@ -42,12 +39,6 @@ pub declined-only : (c : Class) → declinedIn c ≡ true → (doneIn c ≡ fals
 declined-only Of.Done e = untrue e
 declined-only Of.Refused e = untrue e
 declined-only Of.Declined e = (refl, refl)
-
--- a command that asks for no latch misses none
-pub no-latch : (f : Family) (cr4 : ℕ) (latch : Bool) (k : Kind) → kindNeeds cr4 k ≡ false → latchMissing f cr4 latch k ≡ false
-unfolding latchMissing
-no-latch Mram cr4 latch k e = rw e
-no-latch Psram cr4 latch k e = refl
 
 -- an answer refuses as its number does
 pub refusing-is : (v : Answer) → refusing (answerNumber v) ≡ refuses v

@@ -5,8 +5,8 @@ use mathlib.Core.Bool.{Bool, cond}
 use mathlib.Core.List.{List, _∷_}
 use lib.ListN.{getD, replicate}
 use Rattle.units.specs.declared.Bytes.{Bytes}
-use Rattle.opcodes.specs.declared.Register.{Register}
-use Rattle.opcodes.specs.declared.Register.the-variants.{Status, AreaProtection, Configuration1, Configuration2, Configuration3, Configuration4, Configurations, Identity, Unique, Serial, ModeRegister, LongIdentity}
+use Rattle.kinds.specs.declared.Register.{Register}
+use Rattle.kinds.specs.declared.Register.the-variants.{Status, AreaProtection, Configuration1, Configuration2, Configuration3, Configuration4, Configurations, Identity, Unique, Serial, ModeRegister, LongIdentity}
 use Rattle.record.specs.declared.Device.{Device}
 
 -- a status byte without its bit 1

@@ -1,20 +1,18 @@
 // The device record, by value: all that a chip is, but for the memory and the area that are lent to it.
 //
 // A record is plain data and may hold any numbers at all; whether they are those of a chip is a check of
-// its own. What changes a record is a method that takes it and returns the next.
+// its own. What changes a record takes it and returns the next.
 ghost use mathlib.Core.Path.{_≡_};
 ghost use lib.ListN.{getD};
 ghost use Rattle.record.specs.Answers.{answerNumber, classOf, isDone, refuses, isProtected};
 ghost use Rattle.record.specs.Devices.{modeWires, settingOf, unclockedOf};
 ghost use Rattle.record.specs.Fresh.{freshRegisters, freshVolatile, freshIdentity, freshOf};
-ghost use Rattle.record.specs.Changes.{latchTo, armTo, modeTo, sleepTo, toggleTo, resetOf, poweredOf, controlled, writtenTo, burstDone, registerDone, writeDone, effectOf, declinedTo, settledOf};
-ghost use Rattle.record.specs.Latches.{kindNeeds, latchNeeded, latchMissing, afterBurst, afterRegister};
+ghost use Rattle.record.specs.Fields.{latchTo, armTo, modeTo, sleepTo, toggleTo};
+ghost use Rattle.record.specs.Resets.{resetOf, poweredOf};
 ghost use Rattle.record.specs.Shows.{withoutLatch, statusShown, shown, shownByte};
 use counts::Counts;
-use opcodes::Control;
-use opcodes::Kind;
-use opcodes::Register;
-use opcodes::Target;
+use kinds::Kind;
+use kinds::Register;
 use parts::Family;
 use parts::Part;
 use parts::PartM;
@@ -110,7 +108,7 @@ pub fn is_refusal(a: Answer) -> bool
 }
 
 // 9: every byte of the burst was protected.
-fn is_protected(a: Answer) -> bool
+pub fn is_protected(a: Answer) -> bool
     ensures { λ r. ⌜ r ≡ isProtected a ⌝ }
 {
     answer_number(a) == 9
@@ -360,66 +358,6 @@ impl Device {
         self.reset().asleep(false).armed(false)
     }
 
-    // A command without data, done.
-    pub fn controlled(self, c: Control) -> Self
-        ensures { λ r. ⌜ r ≡ controlled c self ⌝ }
-    {
-        match c {
-            Control::NoOperation => self,
-            Control::WriteEnable => self.latched(true),
-            Control::WriteDisable => self.latched(false),
-            Control::ToOne => self.in_mode(1),
-            Control::ToTwo => self.in_mode(2),
-            Control::ToFour => self.in_mode(4),
-            Control::Sleep => self.asleep(true),
-            Control::Wake => self.asleep(false),
-            Control::ResetEnable => self.armed(true),
-            Control::Reset => self.reset(),
-            Control::Toggle => self.toggled(!self.volatile.toggle),
-        }
-    }
-
-    // The bytes of `value` put into a register.
-    pub fn written(mut self, r: Register, value: [u8; 8]) -> Self
-        ensures { λ d. ⌜ d ≡ writtenTo r value self ⌝ }
-    {
-        match r {
-            Register::Status => {
-                let v = without_latch(value[0]);
-                self.registers.status = v;
-                self
-            }
-            Register::AreaProtection => {
-                self.registers.protection = value[0];
-                self
-            }
-            Register::Configuration1 => self,
-            Register::Configuration2 => self,
-            Register::Configuration3 => self,
-            Register::Configuration4 => self,
-            Register::Configurations => {
-                self.registers.cr1 = value[0];
-                self.registers.cr2 = value[1];
-                self.registers.cr3 = value[2];
-                self.registers.cr4 = value[3];
-                self
-            }
-            Register::Identity => self,
-            Register::Unique => self,
-            Register::Serial => {
-                let mut id = self.identity;
-                id.serial = value;
-                self.identity = id;
-                self
-            }
-            Register::ModeRegister => {
-                self.registers.mr0 = value[0];
-                self
-            }
-            Register::LongIdentity => self,
-        }
-    }
-
     // What a read of a register shows, in eight places.
     fn shown(self, r: Register) -> [u8; 8]
         ensures { λ a. ⌜ a ≡ shown self r ⌝ }
@@ -452,67 +390,6 @@ impl Device {
     {
         byte_at(self.shown(r), i)
     }
-
-    // A burst into memory or area, stored or wholly protected.
-    fn burst_done(self) -> Self
-        ensures { λ r. ⌜ r ≡ burstDone self ⌝ }
-    {
-        self.latched(after_burst(self.registers.cr4, self.volatile.latch))
-    }
-
-    // A register write of the MRAM, done. The write mode that counts is the one before it.
-    fn register_done(self, r: Register, value: [u8; 8]) -> Self
-        ensures { λ d. ⌜ d ≡ registerDone r value self ⌝ }
-    {
-        let latch = after_register(self.registers.cr4, self.volatile.latch);
-        self.written(r, value).latched(latch)
-    }
-
-    // A write to this target, done.
-    fn write_done(self, to: Target, value: [u8; 8]) -> Self
-        ensures { λ r. ⌜ r ≡ writeDone to value self ⌝ }
-    {
-        match to {
-            Target::Register(r) => self.register_done(r, value),
-            Target::Mode => self.written(Register::ModeRegister, value),
-            Target::Memory(_) => self.burst_done(),
-            Target::Area => self.burst_done(),
-        }
-    }
-
-    // A command of this kind, done.
-    fn effect(self, k: Kind, value: [u8; 8]) -> Self
-        ensures { λ r. ⌜ r ≡ effectOf k value self ⌝ }
-    {
-        match k {
-            Kind::Unknown => self,
-            Kind::Plain(c) => self.controlled(c),
-            Kind::Read(_) => self,
-            Kind::Write(to) => self.write_done(to, value),
-        }
-    }
-
-    // The record that a transaction leaves when it is answered so.
-    pub fn settled(self, k: Kind, value: [u8; 8], answer: Answer) -> Self
-        ensures { λ r. ⌜ r ≡ settledOf k value answer self ⌝ }
-    {
-        let d = self.armed(false);
-        match class_of(answer) {
-            Class::Done => d.effect(k, value),
-            Class::Refused => self,
-            Class::Declined => d.declined(answer),
-        }
-    }
-
-    // What is declined moves nothing, but 9 moves the latch as the write would have.
-    fn declined(self, answer: Answer) -> Self
-        ensures { λ r. ⌜ r ≡ declinedTo answer self ⌝ }
-    {
-        if is_protected(answer) {
-            return self.burst_done();
-        }
-        self
-    }
 }
 
 // Byte `i` of eight, and 0 past them.
@@ -526,64 +403,8 @@ fn byte_at(a: [u8; 8], i: Bytes) -> u8
     0
 }
 
-// Whether a command of this kind needs the latch.
-pub fn latch_needed(family: Family, cr4: u8, k: Kind) -> bool
-    ensures { λ r. ⌜ r ≡ latchNeeded family cr4 k ⌝ }
-{
-    match family {
-        Family::Mram => kind_needs(cr4, k),
-        Family::Psram => false,
-    }
-}
-
-// Whether it needs the latch and the latch is down.
-pub fn latch_missing(family: Family, cr4: u8, latch: bool, k: Kind) -> bool
-    ensures { λ r. ⌜ r ≡ latchMissing family cr4 latch k ⌝ }
-{
-    if latch_needed(family, cr4, k) {
-        return !latch;
-    }
-    false
-}
-
-fn kind_needs(cr4: u8, k: Kind) -> bool
-    ensures { λ r. ⌜ r ≡ kindNeeds cr4 k ⌝ }
-{
-    match k {
-        Kind::Unknown => false,
-        Kind::Plain(_) => false,
-        Kind::Read(_) => false,
-        Kind::Write(to) => match to {
-            Target::Register(_) => true,
-            Target::Mode => false,
-            Target::Memory(_) => cr4 % 4 != 1,
-            Target::Area => cr4 % 4 != 1,
-        },
-    }
-}
-
-// The latch after a burst into memory or area, stored or wholly protected.
-fn after_burst(cr4: u8, latch: bool) -> bool
-    ensures { λ r. ⌜ r ≡ afterBurst cr4 latch ⌝ }
-{
-    match cr4 % 4 {
-        0 => false,
-        _ => latch,
-    }
-}
-
-// The latch after a register write that was done.
-fn after_register(cr4: u8, latch: bool) -> bool
-    ensures { λ r. ⌜ r ≡ afterRegister cr4 latch ⌝ }
-{
-    match cr4 % 4 {
-        2 => latch,
-        _ => false,
-    }
-}
-
 // A status byte without its bit 1.
-fn without_latch(v: u8) -> u8
+pub fn without_latch(v: u8) -> u8
     ensures { λ r. ⌜ r ≡ withoutLatch v ⌝ }
 {
     v / 4 * 4 + v % 2

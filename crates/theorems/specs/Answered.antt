@@ -15,8 +15,8 @@ use Rattle.units.specs.declared.Bytes.{Bytes}
 use Rattle.units.specs.declared.Wires.{Wires}
 use Rattle.units.specs.Units.{clocks, bytes, wiresOf, perByte, fewer}
 use Rattle.parts.specs.Parts.{partOf, familyOf}
-use Rattle.opcodes.specs.declared.Kind.{Kind}
-use Rattle.opcodes.specs.Kinds.{unknown}
+use Rattle.kinds.specs.declared.Kind.{Kind}
+use Rattle.kinds.specs.Tests.{unknown}
 use Rattle.commands.specs.declared.plans.Body.{Body}
 use Rattle.commands.specs.declared.plans.Body.the-variants as Bodies
 use Rattle.commands.specs.Plans.{addressOf, waitOf, bodyOf, reads}
@@ -26,7 +26,7 @@ use Rattle.record.specs.declared.Device.{Device}
 use Rattle.record.specs.Devices.{modeWires, settingOf}
 use Rattle.record.specs.declared.Setting.{Setting}
 use Rattle.record.specs.declared.Aim.{Aim}
-use Rattle.record.specs.Latches.{latchMissing}
+use Rattle.changes.specs.Latches.{latchMissing}
 use Rattle.record.specs.Answers.{isDone}
 use Rattle.paper.specs.InForce.{asleepFor, commandClocks, addressLength, addressClocks, wiresFor}
 use Rattle.paper.specs.Reading.{first, many, dataPart, restPart, Parts, partsOf}

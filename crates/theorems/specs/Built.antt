@@ -20,9 +20,10 @@ use Rattle.units.specs.declared.Wires.the-variants.{One, Two, Four}
 use Rattle.wires.specs.Bits.{gatherFrom, gather, spelled}
 use Rattle.wires.specs.Laws.{spread-length}
 use Rattle.parts.specs.Parts.{partOf, familyOf, knownPart}
-use Rattle.opcodes.specs.declared.Kind.{Kind}
-use Rattle.opcodes.specs.declared.Kind.the-variants as Kinds
-use Rattle.opcodes.specs.Kinds.{kindOf, unknown}
+use Rattle.kinds.specs.declared.Kind.{Kind}
+use Rattle.kinds.specs.declared.Kind.the-variants as Kinds
+use Rattle.opcodes.specs.Kinds.{kindOf}
+use Rattle.kinds.specs.Tests.{unknown}
 use Rattle.commands.specs.declared.plans.Address.{Address}
 use Rattle.commands.specs.declared.plans.Address.the-variants.{Absent, InMemory, InArea, InMap, LowNibbleZero, Ignored}
 use Rattle.commands.specs.declared.plans.Body.{Body}

@@ -8,7 +8,7 @@ use mathlib.Core.Bool.{true, false, cond}
 use mathlib.Core.List.{List, _++_}
 use lib.ListN.{length, replicate, length-append, replicate-append-replicate}
 use Rattle.basis.specs.Truth.{untrue}
-use Rattle.opcodes.specs.declared.Kind.{Kind}
+use Rattle.kinds.specs.declared.Kind.{Kind}
 use Rattle.counts.specs.Counts.{total}
 use Rattle.record.specs.declared.Answer.{Answer}
 use Rattle.record.specs.declared.Class.{Class}
@@ -16,8 +16,9 @@ use Rattle.record.specs.declared.Class.the-variants as Of
 use Rattle.record.specs.Laws.{declined-only}
 use Rattle.record.specs.declared.Device.{Device}
 use Rattle.record.specs.Devices.{settingOf}
-use Rattle.record.specs.Latches.{afterBurst}
-use Rattle.record.specs.Changes.{latchTo, armTo, settledIn, settledOf}
+use Rattle.changes.specs.Latches.{afterBurst}
+use Rattle.record.specs.Fields.{latchTo, armTo}
+use Rattle.changes.specs.Changes.{settledIn, settledOf}
 use Rattle.record.specs.Answers.{classOf, declinedIn, isDone, refuses, declines, isProtected}
 use Rattle.paper.specs.Reading.{many, Parts, partsOf}
 use Rattle.paper.specs.Storing.{Lent}

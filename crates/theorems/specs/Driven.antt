@@ -18,7 +18,7 @@ use Rattle.units.specs.Units.{clocks, fewer, atMost, wiresOf, wholeOf}
 use Rattle.wires.specs.Bits.{groupOf}
 use Rattle.wires.specs.Levels.{drivenOf}
 use Rattle.wires.specs.LevelLaws.{driven-level, level-not-zero}
-use Rattle.opcodes.specs.declared.Kind.{Kind}
+use Rattle.kinds.specs.declared.Kind.{Kind}
 use Rattle.commands.specs.declared.plans.Body.{Body}
 use Rattle.commands.specs.declared.plans.Body.the-variants.{Nothing, FixedRead, AnyRead, FixedWrite, AnyWrite}
 use Rattle.commands.specs.Plans.{reads}

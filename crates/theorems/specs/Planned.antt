@@ -9,11 +9,11 @@ use Rattle.units.specs.declared.Bytes.{Bytes}
 use Rattle.units.specs.Units.{bytes}
 use Rattle.parts.specs.declared.Part.{Part}
 use Rattle.parts.specs.Parts.{familyOf}
-use Rattle.opcodes.specs.declared.Source.the-variants as From
-use Rattle.opcodes.specs.declared.Target.{Target}
-use Rattle.opcodes.specs.declared.Target.the-variants as Into
-use Rattle.opcodes.specs.declared.Kind.{Kind}
-use Rattle.opcodes.specs.declared.Kind.the-variants.{Unknown, Plain, Read, Write}
+use Rattle.kinds.specs.declared.Source.the-variants as From
+use Rattle.kinds.specs.declared.Target.{Target}
+use Rattle.kinds.specs.declared.Target.the-variants as Into
+use Rattle.kinds.specs.declared.Kind.{Kind}
+use Rattle.kinds.specs.declared.Kind.the-variants.{Unknown, Plain, Read, Write}
 use Rattle.commands.specs.declared.registers.Mapped.{Mapped}
 use Rattle.commands.specs.declared.registers.Mapped.the-variants.{At, Nowhere}
 use Rattle.commands.specs.declared.plans.Address.{Address}
@@ -24,8 +24,8 @@ use Rattle.commands.specs.Registers.{mappedOf}
 use Rattle.commands.specs.Plans.{addressOf, mappedBody, writeBody, bodyOf, reads}
 use Rattle.record.specs.declared.Device.{Device}
 use Rattle.record.specs.declared.Setting.{Setting}
-use Rattle.record.specs.Latches.{latchMissing}
-use Rattle.record.specs.Laws.{no-latch}
+use Rattle.changes.specs.Latches.{latchMissing}
+use Rattle.changes.specs.Laws.{no-latch}
 use Rattle.places.specs.Addresses.{isMapped, allowedOf}
 use Rattle.paper.specs.Storing.{Lent}
 use Rattle.paper.specs.Driving.{byteRead}

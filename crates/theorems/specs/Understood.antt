@@ -16,9 +16,9 @@ use Rattle.units.specs.declared.Wires.{Wires}
 use Rattle.units.specs.Units.{clocks, bytes, wiresOf, perByte, clocksOf}
 use Rattle.wires.specs.Bits.{gather}
 use Rattle.parts.specs.declared.Part.{Part}
-use Rattle.opcodes.specs.declared.Kind.{Kind}
-use Rattle.opcodes.specs.declared.Source.the-variants as From
-use Rattle.opcodes.specs.declared.Kind.the-variants as Kinds
+use Rattle.kinds.specs.declared.Kind.{Kind}
+use Rattle.kinds.specs.declared.Source.the-variants as From
+use Rattle.kinds.specs.declared.Kind.the-variants as Kinds
 use Rattle.commands.specs.declared.plans.Body.{Body}
 use Rattle.commands.specs.Plans.{laterWires, addressOf, bodyOf, reads, writes}
 use Rattle.record.specs.declared.Answer.the-variants.{Done}

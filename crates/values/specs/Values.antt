@@ -8,8 +8,8 @@ use lib.Dec.{eqb, ltb}
 use lib.ListN.{getD}
 use Rattle.parts.specs.declared.Part.{Part}
 use Rattle.parts.specs.Parts.{wrapCodes}
-use Rattle.opcodes.specs.declared.Register.{Register}
-use Rattle.opcodes.specs.declared.Register.the-variants.{Status, AreaProtection, Configuration1, Configuration2, Configuration3, Configuration4, Configurations, Identity, Unique, Serial, ModeRegister, LongIdentity}
+use Rattle.kinds.specs.declared.Register.{Register}
+use Rattle.kinds.specs.declared.Register.the-variants.{Status, AreaProtection, Configuration1, Configuration2, Configuration3, Configuration4, Configurations, Identity, Unique, Serial, ModeRegister, LongIdentity}
 
 -- bits 7, 6 and 0 are 0; bit 1 is dropped, whatever it is
 unfoldable pub statusAllowed : ℕ → Bool

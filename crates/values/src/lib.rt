@@ -6,7 +6,7 @@ ghost use mathlib.Core.Path.{_≡_};
 ghost use lib.ListN.{drop};
 ghost use Rattle.values.specs.Values.{statusAllowed, cr3Allowed, cr4Allowed, configurationsAllowed, modeRegisterAllowed, reservedOf};
 ghost use Rattle.values.specs.States.{modeAllowed, zeros, mramRegisters, psramRegisters, mramVolatile, psramVolatile, mramIdentity, psramIdentity, mramValid, psramValid, validOf};
-use opcodes::Register;
+use kinds::Register;
 use parts::Family;
 use parts::Part;
 use record::Device;

@@ -1,0 +1,3 @@
+pub mod Latches
+pub mod Changes
+pub mod Laws
