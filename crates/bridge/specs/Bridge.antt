@@ -30,7 +30,7 @@ use Rattle.clocking.specs.Machine.{termsOf, holds, runOf, outsOf}
 use Rattle.judging.specs.Finish.{outcomeOf, finishOf}
 use Rattle.bridge.specs.Stage.{Seen, seen}
 use Rattle.bridge.specs.Taking.{held-all, taken-all}
-use Rattle.bridge.specs.Phases.{dataOn, waitOn, addressOn, commandOn, command-law, data-nil, outset}
+use Rattle.bridge.specs.Phases.{dataOn, waitOn, addressOn, commandOn, command-law, data-nil}
 use Rattle.bridge.specs.Silence.{at-end}
 
 -- what a whole read would drive in its data clocks

@@ -20,13 +20,12 @@ use Rattle.wires.specs.Laws.{gather-byte}
 use Rattle.parts.specs.Parts.{familyOf}
 use Rattle.kinds.specs.declared.Kind.{Kind}
 use Rattle.kinds.specs.declared.Kind.the-variants.{Unknown}
-use Rattle.opcodes.specs.Kinds.{kindOf}
+use Rattle.opcodes.specs.Opcodes.{kindOf}
 use Rattle.commands.specs.declared.plans.Body.{Body}
 use Rattle.commands.specs.declared.plans.Body.the-variants.{Nothing, FixedRead, AnyRead, FixedWrite, AnyWrite}
 use Rattle.counts.specs.declared.Counts.{Counts}
 use Rattle.counts.specs.Counts.{counted}
-use Rattle.progress.specs.declared.Phase.{Phase}
-use Rattle.progress.specs.declared.Phase.the-variants.{Command, Address, Wait, Data, Rest}
+use Rattle.progress.specs.declared.Phase.the-variants.{Address, Wait, Data, Rest}
 use Rattle.progress.specs.declared.Tally.{Tally}
 use Rattle.progress.specs.declared.Progress.{Progress}
 use Rattle.progress.specs.Progress.{nothingYet, entered, onward, beginOf}

@@ -2,7 +2,7 @@
 -- has stored nothing and driven nothing. The rows of the table say why, one by one.
 -- Assumes nothing.
 use mathlib.Core.Path.{_≡_, refl, sym, ap, _∙_}
-use Prim.Native.Nat.{ℕ, _/_, _<_}
+use Prim.Native.Nat.{ℕ, _/_}
 use native.Mathlib.Nat.{div-eq-of-lt}
 use native.Mathlib.Omega.{arith}
 use mathlib.Core.Bool.{Bool, true, false, cond, _||_}
@@ -11,11 +11,10 @@ use lib.ListN.{length}
 use borrow.Author.Tests.{ltb-true}
 use Rattle.basis.specs.Truth.{untrue, never, cond-same, or-left, or-right}
 use Rattle.units.specs.declared.Wires.{Wires}
-use Rattle.units.specs.Units.{bytes, perByte, fewer, wholeOf}
+use Rattle.units.specs.Units.{perByte, fewer, wholeOf}
 use Rattle.units.specs.Laws.{perByte-pos}
 use Rattle.parts.specs.declared.Part.{Part}
 use Rattle.parts.specs.Parts.{familyOf}
-use Rattle.kinds.specs.declared.Target.{Target}
 use Rattle.kinds.specs.declared.Target.the-variants as Into
 use Rattle.kinds.specs.declared.Kind.{Kind}
 use Rattle.kinds.specs.declared.Kind.the-variants.{Unknown, Plain, Read, Write}
@@ -34,7 +33,7 @@ use Rattle.paper.specs.InForce.{asleepFor, refusedAt, stopped, decided, command
 use Rattle.paper.specs.Reading.{Parts, many, bytesIn, dataBytes}
 use Rattle.paper.specs.Storing.{Lent, storeByte, takeAll}
 use Rattle.paper.specs.Driving.{drivenAt, along}
-use Rattle.paper.specs.Table.{Table, clear, by-row}
+use Rattle.paper.specs.Table.{clear, by-row}
 use Rattle.paper.specs.Answers.{Facts, shortData, longRest, resetting, unarmed, reservedFor, shutData, tableFor, judge}
 use Rattle.paper.specs.Transaction.{sentBytes, bodyIn, factsOf, storedBy, undriven}
 use Rattle.paper.specs.Laws.{data-many, along-zero, still}

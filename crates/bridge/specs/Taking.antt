@@ -1,7 +1,7 @@
 -- What the data clocks leave, by what the data is: a write its whole bytes, held back or not, a read nothing.
 -- Assumes nothing.
 use mathlib.Core.Path.{_≡_, refl, sym, ap, _∙_}
-use Prim.Native.Nat.{ℕ, _+_, _<_, _≤_}
+use Prim.Native.Nat.{ℕ, _+_, _<_}
 use native.Mathlib.Omega.{arith}
 use mathlib.Core.Bool.{Bool, true, false, cond}
 use mathlib.Core.List.{List, [], _∷_}
@@ -9,14 +9,13 @@ use lib.ListN.{length}
 use borrow.Author.Tests.{eqb-true}
 use Rattle.basis.specs.Counting.{howMany, each-passes}
 use Rattle.units.specs.declared.Clocks.{Clocks}
-use Rattle.units.specs.declared.Bytes.{Bytes}
 use Rattle.units.specs.declared.Wires.{Wires}
-use Rattle.units.specs.Units.{clocks, bytes}
+use Rattle.units.specs.Units.{bytes}
 use Rattle.commands.specs.declared.plans.Body.{Body}
 use Rattle.commands.specs.Plans.{writes}
 use Rattle.record.specs.declared.Aim.{Aim}
 use Rattle.paper.specs.Reading.{dataBytes}
-use Rattle.paper.specs.Storing.{Lent, protectedAt, putAt, allShut, stored, storeByte, valueByte, takeAll}
+use Rattle.paper.specs.Storing.{Lent, protectedAt, allShut, stored, storeByte, valueByte, takeAll}
 use Rattle.paper.specs.Laws.{still}
 use Rattle.words.specs.Words.{Taken, Held}
 use Rattle.clocking.specs.Machine.{byteFor, held}

@@ -9,7 +9,7 @@ use Rattle.units.specs.Units.{clocks, next, atMost, atMostBytes, wholeOf, unfin
 use Rattle.wires.specs.Bits.{shiftOf}
 use Rattle.parts.specs.Parts.{familyOf}
 use Rattle.kinds.specs.declared.Kind.{Kind}
-use Rattle.opcodes.specs.Kinds.{kindOf}
+use Rattle.opcodes.specs.Opcodes.{kindOf}
 use Rattle.commands.specs.declared.plans.Body.{Body}
 use Rattle.commands.specs.declared.plans.Body.the-variants.{Nothing, FixedRead, AnyRead, FixedWrite, AnyWrite}
 use Rattle.commands.specs.Plans.{writes}

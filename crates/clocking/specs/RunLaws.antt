@@ -10,7 +10,7 @@ use Rattle.units.specs.Units.{clocks, atMost}
 use Rattle.wires.specs.Bits.{shiftOf}
 use Rattle.parts.specs.Parts.{familyOf}
 use Rattle.kinds.specs.declared.Kind.{Kind}
-use Rattle.opcodes.specs.Kinds.{kindOf}
+use Rattle.opcodes.specs.Opcodes.{kindOf}
 use Rattle.counts.specs.Counts.{total, commandTick, addressTick, waitTick, bodyTick}
 use Rattle.record.specs.declared.Device.{Device}
 use Rattle.record.specs.declared.Setting.{Setting}

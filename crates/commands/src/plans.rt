@@ -1,6 +1,6 @@
 // The plan of a command: what its clocks are for.
 ghost use mathlib.Core.Path.{_≡_};
-ghost use Rattle.commands.specs.Plans.{columnOf, waitRow, waitsByRegister, waitOf, laterWires, addressOf, mappedBody, readBody, writeBody, bodyOf, reads, writes};
+ghost use Rattle.commands.specs.Plans.{columnOf, waitRow, waitsByRegister, waitOf, laterWires, addressOf, mappedBody, readBody, writeBody, bodyOf, writes};
 use crate::registers::Mapped;
 use crate::registers::register_at;
 use crate::registers::size_of;
@@ -195,19 +195,7 @@ pub fn body_of(part: Part, k: Kind, address: u32) -> Body
     }
 }
 
-// Whether it is a read, or a write.
-pub fn is_read(b: Body) -> bool
-    ensures { λ r. ⌜ r ≡ reads b ⌝ }
-{
-    match b {
-        Body::Nothing => false,
-        Body::FixedRead(_) => true,
-        Body::AnyRead => true,
-        Body::FixedWrite(_) => false,
-        Body::AnyWrite => false,
-    }
-}
-
+// Whether it is a write.
 pub fn is_write(b: Body) -> bool
     ensures { λ r. ⌜ r ≡ writes b ⌝ }
 {

@@ -3,7 +3,6 @@ use columns::column;
 use tape::Entry;
 use text::put;
 use text::put_all;
-use text::put_decimal;
 
 // A word and a number, on a line of their own.
 pub fn last_line(text: &mut [u8], at: usize, word: &[u8], v: u64) -> usize {

@@ -1,2 +1,2 @@
-pub mod Kinds
-pub mod KindLaws
+pub mod Opcodes
+pub mod OpcodeLaws

@@ -1,6 +1,6 @@
 // The decision over the opcode byte: the kind of a command for family and bus mode.
 ghost use mathlib.Core.Path.{_≡_};
-ghost use Rattle.opcodes.specs.Kinds.{rowOf, inModes, kindIn, kindOf};
+ghost use Rattle.opcodes.specs.Opcodes.{rowOf, inModes, kindIn, kindOf};
 use kinds::Control;
 use kinds::Kind;
 use kinds::Reading;

@@ -1,7 +1,7 @@
 -- Laws of bursts: two that touch no place in common commute, and what one byte of memory holds after a burst.
 -- Assumes nothing.
 use mathlib.Core.Path.{_≡_, refl, ap, _∙_, sym}
-use mathlib.Core.Bool.{Bool, true, false, cond, _&&_}
+use mathlib.Core.Bool.{Bool, true, false, cond}
 use mathlib.Core.List.{List, [], _∷_, List·Mem, List·Memᴰ·head, mem-cons-self, mem-cons-of-mem, not-mem-nil}
 use mathlib.Core.Logic.{Or·elim}
 use mathlib.Core.List.{eq-or-mem-of-mem-cons}

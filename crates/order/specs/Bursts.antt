@@ -1,7 +1,7 @@
 -- A burst into memory, told by itself: where its bytes lie, which places are protected, what was sent. Document 01, "Commands of part M" and "Commands of part P",
 -- the paragraphs on memory, and "What the promises have to nail", last sentence.
 use Prim.Native.Nat.{ℕ, _+_, _%_}
-use mathlib.Core.Bool.{Bool, true, cond, not, _&&_}
+use mathlib.Core.Bool.{Bool, cond, not}
 use mathlib.Core.List.{List, [], _∷_, _++_}
 use lib.Dec.{T, eqb}
 use lib.ListN.{length, replicate, set}

@@ -5,7 +5,7 @@ use mathlib.Core.Path.{_≡_, refl, ap, _∙_, sym}
 use Prim.Native.Nat.{ℕ, _/_, _≤_}
 use native.Mathlib.Nat.{div-le-self}
 use native.Mathlib.Omega.{arith}
-use mathlib.Core.Bool.{Bool, true, false, cond, not}
+use mathlib.Core.Bool.{Bool, true, false, cond}
 use mathlib.Core.List.{List, []}
 use lib.Dec.{leb}
 use lib.ListN.{length, take, drop, length-take, length-drop}
@@ -31,7 +31,7 @@ use Rattle.changes.specs.Changes.{settledOf}
 use Rattle.record.specs.Answers.{isDone}
 use Rattle.values.specs.States.{validOf}
 use Rattle.paper.specs.InForce.{asleepFor, stopped, decided, commandClocks, addressClocks, waitClocks, wiresFor, bodyFor}
-use Rattle.paper.specs.Reading.{after, many, kindRead, dataPart, Parts, partsOf, countsIn, dataBytes}
+use Rattle.paper.specs.Reading.{many, kindRead, dataPart, Parts, partsOf, countsIn, dataBytes}
 use Rattle.paper.specs.Laws.{data-many, along-zero}
 use Rattle.paper.specs.Storing.{Lent, allShut, storeByte, takeAll}
 use Rattle.paper.specs.Driving.{drivenAt, along}

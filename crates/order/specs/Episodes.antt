@@ -4,7 +4,6 @@ use Prim.Native.Nat.{ℕ, _≤_}
 use mathlib.Core.Bool.{true, false}
 use mathlib.Core.List.{List, [], _∷_, map, List·Mem}
 use lib.ListN.{length, getD}
-use Rattle.units.specs.Units.{bytes}
 use Rattle.parts.specs.declared.Family.the-variants.{Mram, Psram}
 use Rattle.parts.specs.Parts.{familyOf}
 use Rattle.kinds.specs.declared.Control.the-variants.{WriteEnable}

@@ -4,7 +4,7 @@
 -- Assumes nothing.
 use mathlib.Core.Path.{_≡_, refl}
 use Prim.Native.Nat.{ℕ}
-use mathlib.Core.Bool.{Bool, true, not, _&&_}
+use mathlib.Core.Bool.{Bool, true, _&&_}
 use mathlib.Core.List.{List, [], _∷_, _++_, map, List·Permᴰ·cons, List·Permᴰ·swap, List·Permᴰ·trans}
 use lib.Dec.{T, eqb, lit≤}
 use lib.ListN.{length, getD, replicate}
@@ -17,7 +17,7 @@ use Rattle.wires.specs.Bits.{shiftOf, gatherFrom, spelled, spread, groupOf}
 use Rattle.parts.specs.declared.Part.the-variants.{M, P}
 use Rattle.parts.specs.Parts.{offered}
 use Rattle.kinds.specs.declared.Writing.the-variants as Writes
-use Rattle.opcodes.specs.Kinds.{entryOf}
+use Rattle.opcodes.specs.Opcodes.{entryOf}
 use Rattle.commands.specs.Registers.{mappedOf}
 use Rattle.record.specs.Answers.{answerNumber}
 use Rattle.record.specs.Fresh.{makeOf, freshOf}

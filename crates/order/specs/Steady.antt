@@ -1,9 +1,9 @@
 -- A command that is no write and no reset looks at neither latch nor arming: answered 0 once, it is answered 0 again whatever they and memory are. A write enable is one.
 -- Assumes nothing.
 use mathlib.Core.Path.{_≡_, refl, ap, _∙_, sym}
-use Prim.Native.Nat.{ℕ, _+_}
-use mathlib.Core.Bool.{Bool, true, false, not, _&&_}
-use mathlib.Core.List.{List, [], _∷_}
+use Prim.Native.Nat.{ℕ}
+use mathlib.Core.Bool.{Bool, true, false}
+use mathlib.Core.List.{List}
 use Rattle.basis.specs.Truth.{cond-same}
 use Rattle.units.specs.declared.Bytes.{Bytes}
 use Rattle.parts.specs.declared.Family.{Family}

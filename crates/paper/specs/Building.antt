@@ -15,7 +15,7 @@ use Rattle.kinds.specs.declared.Source.{Source}
 use Rattle.kinds.specs.declared.Source.the-variants as From
 use Rattle.kinds.specs.declared.Kind.{Kind}
 use Rattle.kinds.specs.declared.Kind.the-variants as Kinds
-use Rattle.opcodes.specs.Kinds.{kindOf}
+use Rattle.opcodes.specs.Opcodes.{kindOf}
 use Rattle.kinds.specs.Tests.{unknown}
 use Rattle.commands.specs.declared.plans.Address.{Address}
 use Rattle.commands.specs.declared.plans.Address.the-variants.{Absent, InMemory, InArea, InMap, LowNibbleZero, Ignored}

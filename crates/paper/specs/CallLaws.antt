@@ -2,17 +2,17 @@
 -- Assumes nothing.
 use mathlib.Core.Path.{_≡_, refl, sym, ap, _∙_}
 use Prim.Native.Nat.{ℕ}
-use mathlib.Core.Bool.{Bool, true, false, not, _&&_}
-use mathlib.Core.List.{List, [], _∷_, _++_}
+use mathlib.Core.Bool.{Bool, true, false, not}
+use mathlib.Core.List.{List, [], _∷_}
 use Rattle.basis.specs.Truth.{untrue, both-true, not-untrue}
 use Rattle.basis.specs.Decisions.{firstOf, leadingTo, NoneHolds, Among, no-row, by-rows, none-holds, first-map, ways-to, same-tests, tests-same, leading-back, among-all}
 use Rattle.counts.specs.Counts.{noCounts}
 use Rattle.record.specs.declared.Answer.{Answer}
 use Rattle.record.specs.declared.Device.{Device}
-use Rattle.record.specs.Answers.{isDone, refuses}
+use Rattle.record.specs.Answers.{refuses}
 use Rattle.values.specs.States.{validOf}
 use Rattle.paper.specs.Storing.{Lent}
-use Rattle.paper.specs.Table.{Table, answerBy, by-row}
+use Rattle.paper.specs.Table.{by-row}
 use Rattle.paper.specs.Answers.{Facts, tableFor, judge}
 use Rattle.paper.specs.Transaction.{World, sizedFor, roomFor, sampled, refusal, guarded, transactChecks, powerChecks, poweredUp, clockedOf, transactOf, powerOf}
 
@@ -102,7 +102,9 @@ module _ (d : Device) (l : Lent) (xs out : List ℕ) where
 
   pub when-accepted : Accepted d l xs out → transactOf d l xs out ≡ clockedOf d l xs out
   unfolding transactOf
-  when-accepted a = rw (a .sized, a .room, a .levels, a .valid)
+  when-accepted a =
+      made-by d l out (transactChecks d l xs out) (clockedOf d l xs out)
+      (rw (a .sized, a .room), (rw (a .levels), (rw (a .valid), tt)))
 
   -- what a transaction that is not refused leaves is what its clocks leave
   pub not-refused : refuses (transactOf d l xs out .answer) ≡ false → transactOf d l xs out ≡ clockedOf d l xs out

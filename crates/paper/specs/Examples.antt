@@ -15,7 +15,7 @@ use Rattle.units.specs.Units.{bytes, clocksOf, byteClocks}
 use Rattle.wires.specs.Bits.{shiftOf, gatherFrom, spelled, spread, groupOf}
 use Rattle.parts.specs.declared.Part.the-variants.{M, P}
 use Rattle.parts.specs.Parts.{offered}
-use Rattle.opcodes.specs.Kinds.{entryOf}
+use Rattle.opcodes.specs.Opcodes.{entryOf}
 use Rattle.commands.specs.Registers.{mappedOf}
 use Rattle.record.specs.declared.Device.{Device}
 use Rattle.record.specs.Answers.{answerNumber}

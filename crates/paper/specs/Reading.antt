@@ -10,7 +10,7 @@ use Rattle.wires.specs.Bits.{gather}
 use Rattle.parts.specs.Parts.{familyOf}
 use Rattle.kinds.specs.declared.Kind.{Kind}
 use Rattle.kinds.specs.declared.Kind.the-variants.{Unknown}
-use Rattle.opcodes.specs.Kinds.{kindOf}
+use Rattle.opcodes.specs.Opcodes.{kindOf}
 use Rattle.counts.specs.declared.Counts.{Counts}
 use Rattle.counts.specs.Counts.{counted}
 use Rattle.commands.specs.declared.plans.Body.{Body}

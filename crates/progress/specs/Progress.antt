@@ -1,6 +1,5 @@
 -- An unfinished transaction: facts only. It has no verdict, which is judged at the end, and no countdown: a phase is full when its count has reached its clocks.
 use Prim.Native.Nat.{ℕ}
-use mathlib.Core.List.{List}
 use lib.ListN.{replicate}
 use Rattle.counts.specs.declared.Counts.{Counts}
 use Rattle.counts.specs.Counts.{noCounts}
@@ -15,12 +14,9 @@ use Rattle.progress.specs.declared.Progress.{Progress}
 abbrev pub nothingYet : Tally
 nothingYet = record { counts = noCounts; value = replicate 8 0 }
 
--- the tally with other counts, and with another value
+-- the tally with other counts
 abbrev pub counting : Counts → Tally → Tally
 counting c t = record { counts = c; value = t .value }
-
-abbrev pub holding : List ℕ → Tally → Tally
-holding v t = record { counts = t .counts; value = v }
 
 -- at the start of a phase nothing of it is gathered
 abbrev pub entered : Phase → Kind → ℕ → Tally → Progress

@@ -1,6 +1,6 @@
 // What is known of an unfinished transaction. It stands below the device record, so that a record can hold it.
 ghost use mathlib.Core.Path.{_≡_};
-ghost use Rattle.progress.specs.Progress.{nothingYet, counting, holding, entered, onward, beginOf};
+ghost use Rattle.progress.specs.Progress.{nothingYet, counting, entered, onward, beginOf};
 use counts::Counts;
 use kinds::Kind;
 
@@ -42,14 +42,6 @@ impl Tally {
         ensures { λ r. ⌜ r ≡ counting counts self ⌝ }
     {
         self.counts = counts;
-        self
-    }
-
-    // With another value.
-    pub fn holding(mut self, value: [u8; 8]) -> Self
-        ensures { λ r. ⌜ r ≡ holding value self ⌝ }
-    {
-        self.value = value;
         self
     }
 }

@@ -411,7 +411,7 @@ pub fn without_latch(v: u8) -> u8
 }
 
 // The status register as it is read: bit 1 shows the latch.
-pub fn status_shown(v: u8, latch: bool) -> u8
+fn status_shown(v: u8, latch: bool) -> u8
     ensures { λ r. ⌜ r ≡ statusShown v latch ⌝ }
 {
     if latch {

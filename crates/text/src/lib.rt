@@ -71,7 +71,7 @@ fn upper(b: u8) -> u8
 }
 
 // Bytes one after the other, letters in upper case.
-pub fn put_upper(text: &mut [u8], at: usize, bytes: &[u8]) -> usize
+fn put_upper(text: &mut [u8], at: usize, bytes: &[u8]) -> usize
     ensures { λ r. ⌜ page r (now (text .exit)) ≡ putsOf (map upperOf (now (bytes .entry))) (page at (now (text .entry))) ⌝ }
 {
     let mut to = at;

@@ -15,7 +15,7 @@ use Rattle.paper.specs.Reading.{partsOf}
 use Rattle.paper.specs.Storing.{Lent}
 use Rattle.paper.specs.Table.{listed}
 use Rattle.paper.specs.Answers.{tableFor, judge}
-use Rattle.paper.specs.Transaction.{factsOf, transactChecks, powerChecks, refusal, poweredUp, clockedOf, transactOf, powerOf}
+use Rattle.paper.specs.Transaction.{factsOf, transactChecks, powerChecks, poweredUp, clockedOf, transactOf, powerOf}
 use Rattle.paper.specs.CallLaws.{answer-by}
 
 -- THE WHOLE TABLE, one test a row: the checks before a transaction, and then the rows of `paper`

@@ -13,7 +13,7 @@ use Rattle.units.specs.Units.{bytes}
 use Rattle.wires.specs.Bits.{shiftOf, gatherFrom, spelled}
 use Rattle.parts.specs.declared.Part.the-variants.{M, P}
 use Rattle.parts.specs.Parts.{offered}
-use Rattle.opcodes.specs.Kinds.{entryOf}
+use Rattle.opcodes.specs.Opcodes.{entryOf}
 use Rattle.commands.specs.Registers.{mappedOf}
 use Rattle.record.specs.declared.Device.{Device}
 use Rattle.record.specs.Fresh.{makeOf, freshOf}

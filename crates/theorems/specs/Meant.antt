@@ -7,7 +7,6 @@ use mathlib.Core.List.{List}
 use lib.ListN.{length}
 use Rattle.units.specs.declared.Clocks.{Clocks}
 use Rattle.units.specs.declared.Wires.{Wires}
-use Rattle.units.specs.Units.{bytes}
 use Rattle.parts.specs.Parts.{partOf}
 use Rattle.commands.specs.declared.plans.Body.{Body}
 use Rattle.commands.specs.Plans.{laterWires, bodyOf, waitsByRegister}
@@ -17,7 +16,7 @@ use Rattle.record.specs.Devices.{settingOf}
 use Rattle.record.specs.declared.Answer.the-variants.{Done, Size, Sample, State, Short, Unknown, Asleep, Address, Latch, Protected, Reserved, Long, Unarmed}
 use Rattle.values.specs.States.{validOf}
 use Rattle.paper.specs.InForce.{refusedAt}
-use Rattle.paper.specs.Reading.{first, many}
+use Rattle.paper.specs.Reading.{first}
 use Rattle.paper.specs.Storing.{Lent}
 use Rattle.paper.specs.Driving.{byteRead}
 use Rattle.paper.specs.Transaction.{sizedFor}

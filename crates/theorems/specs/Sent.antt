@@ -14,7 +14,7 @@ use borrow.Author.Tests.{ltb-true, lt-ltb}
 use Rattle.basis.specs.Truth.{both-true}
 use Rattle.units.specs.declared.Wires.{Wires}
 use Rattle.units.specs.declared.Wires.the-variants.{One, Two, Four}
-use Rattle.units.specs.Units.{bytes, wiresOf, perByte}
+use Rattle.units.specs.Units.{wiresOf, perByte}
 use Rattle.units.specs.Laws.{bits-of-byte, perByte-pos}
 use Rattle.wires.specs.Bits.{gather, above, spelled}
 use Rattle.wires.specs.Laws.{spread-length, gather-spread}

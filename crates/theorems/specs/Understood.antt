@@ -13,7 +13,7 @@ use mathlib.Core.Bool.{Bool, true, cond}
 use mathlib.Core.List.{List}
 use lib.ListN.{length}
 use Rattle.units.specs.declared.Wires.{Wires}
-use Rattle.units.specs.Units.{clocks, bytes, wiresOf, perByte, clocksOf}
+use Rattle.units.specs.Units.{clocks, wiresOf, perByte, clocksOf}
 use Rattle.wires.specs.Bits.{gather}
 use Rattle.parts.specs.declared.Part.{Part}
 use Rattle.kinds.specs.declared.Kind.{Kind}
@@ -29,7 +29,7 @@ use Rattle.paper.specs.InForce.{wiresFor}
 use Rattle.paper.specs.Reading.{first, many, dataPart, partsOf, dataBytes}
 use Rattle.paper.specs.Storing.{Lent}
 use Rattle.paper.specs.Transaction.{over, transactOf}
-use Rattle.paper.specs.Building.{Order, manyBytes, tooMany, sentOn, kindAsked, asked, addressed, builtOf, buildOf}
+use Rattle.paper.specs.Building.{Order, manyBytes, tooMany, sentOn, kindAsked, addressed, builtOf, buildOf}
 use Rattle.paper.specs.Collecting.{collectOf}
 use Rattle.theorems.specs.Driven.{blank-length}
 use Rattle.theorems.specs.Sent.{byte-read}

@@ -2,7 +2,7 @@
 -- Assumes nothing.
 use mathlib.Core.Path.{_∙_, ap}
 use Rattle.opcodes.specs.declared.Row.{Row}
-use Rattle.opcodes.specs.Kinds.{kindIn}
+use Rattle.opcodes.specs.Opcodes.{kindIn}
 use borrow.Author.Needs.{needs}
 use Rattle.opcodes.proofs.kind_of.Statement.{statement}
 use Rattle.opcodes.proofs.kind_of.Tie as tie

@@ -2,8 +2,8 @@
 -- Assumes nothing.
 use mathlib.Core.Path.{sym}
 use mathlib.Core.Logic.{⊎-elim}
-use Rattle.opcodes.specs.Kinds.{entryOf}
-use Rattle.opcodes.specs.KindLaws.{row-by, row-away}
+use Rattle.opcodes.specs.Opcodes.{entryOf}
+use Rattle.opcodes.specs.OpcodeLaws.{row-by, row-away}
 use Rattle.opcodes.proofs.row_of.Statement.{statement}
 use Rattle.opcodes.proofs.row_of.Tie as tie
 

@@ -5,7 +5,7 @@ use Rattle.values.proofs.valid.Statement.{statement}
 use Rattle.values.proofs.valid.Tie as tie
 use mathlib.Core.Path.{sym, ap, _∙_}
 use Rattle.parts.specs.Parts.{familyOf}
-use Rattle.values.specs.States.{mramValid, psramValid, validOf}
+use Rattle.values.specs.States.{validOf}
 
 pub valid-spec : {M : Type 1} → statement M
 unfolding validOf

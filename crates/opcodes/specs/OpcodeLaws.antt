@@ -11,7 +11,7 @@ use Rattle.parts.specs.declared.Family.{Family}
 use Rattle.parts.specs.declared.Family.the-variants.{Mram, Psram}
 use Rattle.kinds.specs.declared.Kind.the-variants.{Unknown}
 use Rattle.opcodes.specs.declared.Modes.the-variants.{Never}
-use Rattle.opcodes.specs.Kinds.{mramRows, psramRows, rowsOf, noEntry, entryOf, inModes, kindOf, rowOf}
+use Rattle.opcodes.specs.Opcodes.{mramRows, psramRows, rowsOf, noEntry, entryOf, inModes, kindOf, rowOf}
 
 -- no opcode stands twice in a family's rows, so the first row that has it is the only one
 pub rows-distinct : (f : Family) → T (distinct (keys (rowsOf f)))
