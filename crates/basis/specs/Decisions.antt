@@ -1,4 +1,5 @@
--- A decision as an ordered list of tests, each with what it leads to: the first test that holds decides, and where none does there is a default. The answer table, the checks before a call and the refusals of the host half are such lists.
+-- A decision as an ordered list of tests, each with what it leads to: the first test that holds decides, and where none does there is a default. The answer
+-- table, the checks before a call and the refusals of the host half are such lists.
 -- Assumes nothing.
 use mathlib.Core.Path.{_≡_, refl, sym, _∙_}
 use mathlib.Core.Bool.{Bool, true, false, cond}

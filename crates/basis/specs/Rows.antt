@@ -7,7 +7,7 @@ use mathlib.Core.List.{List, [], _∷_, reverse, reverseAux, map}
 use Prim.Native.Nat.{ℕ}
 use lib.Dec.{T, eqb, eqb→eq}
 use borrow.Author.Tests.{ne-eqb}
-use Rattle.basis.specs.Truth.{both}
+use Rattle.basis.specs.Truth.{both, both-true}
 
 abbrev pub look : {A : Type 0} → A → List (ℕ × A) → ℕ → A
 look none [] x = none
@@ -53,6 +53,21 @@ away-of-rest x ks h = rest-away x ks [] h .1
 pub look-away : {A : Type 0} (none : A) (rs : List (ℕ × A)) (x : ℕ) → Away x (keys rs) → look none rs x ≡ none
 look-away none [] x h = refl
 look-away none (r ∷ rs) x h = rw (ne-eqb x (r .0) (h .0)) (look-away none rs x (h .1))
+
+-- a test that every row passes, and the default too, is passed by what is found
+abbrev pub eachRow : {A : Type 0} → (A → Bool) → List (ℕ × A) → Bool
+eachRow q [] = true
+eachRow q (r ∷ rs) = q (r .1) && eachRow q rs
+
+look-step : {A : Type 0} (q : A → Bool) (x y : A) (b : Bool) → q x ≡ true → q y ≡ true → q (cond b x y) ≡ true
+look-step q x y true e f = e
+look-step q x y false e f = f
+
+pub look-passes : {A : Type 0} (q : A → Bool) (none : A) (rs : List (ℕ × A)) (x : ℕ) → eachRow q rs ≡ true → q none ≡ true → q (look none rs x) ≡ true
+look-passes q none [] x e d = d
+look-passes q none (r ∷ rs) x e d =
+    let b = both-true (q (r .1)) (eachRow q rs) e in
+    look-step q (r .1) (look none rs x) (eqb x (r .0)) (b .0) (look-passes q none rs x (b .1) d)
 
 away-step : (x y k : ℕ) (b rest : Bool) → (x ≡ k → ⊥) → (T rest → x ≡ y → ⊥) → eqb y k ≡ b → T (b || rest) → x ≡ y → ⊥
 away-step x y k true rest n m p t e = n (e ∙ eqb→eq y k (rw p tt))

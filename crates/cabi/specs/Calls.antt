@@ -7,18 +7,18 @@ use lib.ListN.{length, replicate}
 use Rattle.parts.specs.declared.Part.the-variants.{M, P}
 use Rattle.parts.specs.Parts.{offered}
 use Rattle.counts.specs.Counts.{noCounts}
-use Rattle.record.specs.declared.Answer.the-variants.{Done, Size, State}
-use Rattle.record.specs.declared.Device.{Device}
+use Rattle.record.specs.declared.answers.Answer.the-variants.{Done, Size, State}
+use Rattle.record.specs.declared.devices.Device.{Device}
 use Rattle.record.specs.Answers.{answerNumber}
 use Rattle.record.specs.Fresh.{makeOf, freshOf}
 use Rattle.paper.specs.Storing.{Lent}
 use Rattle.paper.specs.Transaction.{World, refusal, transactOf, powerOf}
-use Rattle.record.specs.declared.Outcome.{Outcome}
-use Rattle.words.specs.Words.{lends, worldOf}
+use Rattle.record.specs.declared.devices.Outcome.{Outcome}
+use Rattle.contract_words.specs.Words.{lends, worldOf}
 use Rattle.chips.specs.Chips.{chipSize, isChip, chipOf, bytesOf}
 use Rattle.chips.specs.Words.{hasCounts, countsOver}
 
--- ---- fresh chips
+-- ---- fresh chips, as bytes alone (D48)
 pub record Made : Type 0 where
   pub answer : ℕ
   pub chip : List ℕ
@@ -52,17 +52,18 @@ callAs v chip memory area output counts = record { answer = v; chip = chip; lent
 abbrev pub inBytes : World → List ℕ → Call
 inBytes w counts = record { answer = answerNumber (w .answer); chip = bytesOf (w .device); lent = w .lent; output = w .output; counts = countsOver (w .counts) counts }
 
--- 3 for bytes that are no chip's: nothing changes but the counts, which are 0
+-- 3 for bytes that are no chip's: nothing changes but the counts, which are 0 (D46)
 abbrev pub across : List ℕ → Lent → List ℕ → List ℕ → World → Call
 across chip l out counts w =
     cond (isChip chip) (inBytes w counts) (record { answer = answerNumber State; chip = chip; lent = l; output = out; counts = countsOver noCounts counts })
 
--- 1 also where there are not five words for the counts
+-- 1 also where there are not five words for the counts (D47)
 unfoldable pub transactIn : List ℕ → Lent → List ℕ → List ℕ → List ℕ → Call
 transactIn chip l xs out counts =
     let d = chipOf chip in
     across chip l out counts (cond (hasCounts counts) (transactOf d l xs out) (refusal d l out Size))
 
+-- no words for counts, which are always 0 (D48)
 unfoldable pub powerIn : List ℕ → Lent → Call
 powerIn chip l = across chip l [] [] (powerOf (chipOf chip) l)
 

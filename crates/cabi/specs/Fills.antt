@@ -4,7 +4,7 @@ use mathlib.Core.Bool.{cond}
 use mathlib.Core.List.{List}
 use Rattle.units.specs.declared.Clocks.{Clocks}
 use Rattle.units.specs.declared.Bytes.{Bytes}
-use Rattle.record.specs.declared.Answer.the-variants.{Size}
+use Rattle.record.specs.declared.answers.Answer.the-variants.{Size}
 use Rattle.record.specs.Answers.{answerNumber}
 use Rattle.paper.specs.Building.{Order, Told, buildOf}
 use Rattle.paper.specs.Collecting.{collectOf}
@@ -22,7 +22,7 @@ abbrev pub orderIn : ℕ → ℕ → ℕ → ℕ → ℕ → Bytes → List ℕ 
 orderIn part opcode mode address cr2 wanted written =
     record { part = part; opcode = opcode; mode = mode; address = address; cr2 = cr2; written = written; wanted = wanted }
 
--- what the host half tells; 1 where there is not one word for the number, and nothing changes
+-- what the host half tells; 1 where there is not one word for the number, and nothing changes (D47)
 abbrev pub filled : {U : Type 0} → (U → ℕ) → Told U → List ℕ → List ℕ → Filled
 filled count t buffer number =
     cond (hasNumber number) (filledAs (answerNumber (t .answer)) (t .buffer) (numberOver (count (t .number)) number)) (filledAs (answerNumber Size) buffer number)

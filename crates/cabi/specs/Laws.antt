@@ -12,8 +12,8 @@ use Rattle.record.specs.Answers.{answerNumber}
 use Rattle.paper.specs.Transaction.{World, transactOf, powerOf}
 use Rattle.paper.specs.Building.{Order, Told, buildOf}
 use Rattle.paper.specs.Collecting.{collectOf}
-use Rattle.record.specs.declared.Outcome.{Outcome}
-use Rattle.words.specs.Words.{lends, worldOf}
+use Rattle.record.specs.declared.devices.Outcome.{Outcome}
+use Rattle.contract_words.specs.Words.{lends, worldOf}
 use Rattle.chips.specs.Chips.{isChip, chipOf, bytesOf}
 use Rattle.chips.specs.Words.{countsOver, numberOver}
 use Rattle.chips.specs.Laws.{write-back}

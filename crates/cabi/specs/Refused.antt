@@ -1,4 +1,5 @@
--- A call that is answered 1, 2 or 3 changes nothing of what C lent, but that the five counts are 0. Also where the refusal is the device's own, after the chip was read from its bytes and written again.
+-- A call that is answered 1, 2 or 3 changes nothing of what C lent, but that the five counts are 0. Also where the refusal is the device's own, after the chip
+-- was read from its bytes and written again.
 -- Assumes nothing.
 use mathlib.Core.Path.{_≡_, refl, sym, ap, _∙_}
 use Prim.Native.Nat.{ℕ}
@@ -8,7 +9,7 @@ use Rattle.counts.specs.declared.Counts.{Counts}
 use Rattle.counts.specs.Counts.{noCounts}
 use Rattle.paper.specs.Storing.{Lent}
 use Rattle.paper.specs.Transaction.{World, refusal}
-use Rattle.record.specs.declared.Answer.the-variants.{Size}
+use Rattle.record.specs.declared.answers.Answer.the-variants.{Size}
 use Rattle.record.specs.Answers.{refusing, refuses}
 use Rattle.record.specs.Laws.{refusing-is}
 use Rattle.paper.specs.CallLaws.{Untouched, transact-refused, power-refused-so}

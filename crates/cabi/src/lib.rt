@@ -4,7 +4,7 @@ ghost use mathlib.Core.Path.{_≡_};
 ghost use mathlib.Core.List.{[]};
 ghost use lib.ListN.{length};
 ghost use Rattle.units.specs.Units.{bytes};
-ghost use Rattle.words.specs.Words.{lends};
+ghost use Rattle.contract_words.specs.Words.{lends};
 ghost use Rattle.chips.specs.Chips.{chipSize};
 ghost use Rattle.cabi.specs.Calls.{madeAs, freshMIn, freshPIn, callAs, outcomeTold, transactIn, powerIn};
 ghost use Rattle.cabi.specs.Fills.{filledAs, orderIn, buildIn, gatherIn};
@@ -18,7 +18,7 @@ use chips::put_chip;
 use chips::put_counts;
 use chips::put_number;
 use counts::Counts;
-use orders::Order;
+use host_order::Order;
 use parts::Part;
 use parts::PartM;
 use parts::PartP;
@@ -159,10 +159,11 @@ pub extern "C" fn tondravik_build(
         mode,
         address,
         cr2,
-        wanted: Bytes(wanted),
+        wanted: Bytes::stated(wanted),
     };
     let b = host::build(o, written, samples);
-    put_number(b.clocks.0, clocks);
+    let n = b.clocks;
+    put_number(n.in_clocks(), clocks);
     let v = b.answer;
     answer_number(v)
 }
@@ -181,7 +182,8 @@ pub extern "C" fn tondravik_gather(
         return SIZE;
     }
     let g = host::gather(wires, driven, bytes);
-    put_number(g.bytes.0, number);
+    let n = g.bytes;
+    put_number(n.in_bytes(), number);
     let v = g.answer;
     answer_number(v)
 }

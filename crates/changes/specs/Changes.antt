@@ -1,5 +1,5 @@
 -- What a transaction leaves of the record. Document 01, "Commands of part M" (control, register writes, latch) and "Commands of part P" (mode
--- register, toggle); "Answer numbers", what each answer leaves.
+-- register, toggle); "Answer numbers", what each answer leaves (D60); "Reset and power", what arms and disarms.
 use Prim.Native.Nat.{ℕ}
 use mathlib.Core.Bool.{true, false, cond, not}
 use mathlib.Core.List.{List}
@@ -12,10 +12,10 @@ use Rattle.kinds.specs.declared.Target.{Target}
 use Rattle.kinds.specs.declared.Target.the-variants as Into
 use Rattle.kinds.specs.declared.Kind.{Kind}
 use Rattle.kinds.specs.declared.Kind.the-variants as Kinds
-use Rattle.record.specs.declared.Answer.{Answer}
-use Rattle.record.specs.declared.Class.{Class}
-use Rattle.record.specs.declared.Class.the-variants as Of
-use Rattle.record.specs.declared.Device.{Device}
+use Rattle.record.specs.declared.answers.Answer.{Answer}
+use Rattle.record.specs.declared.answers.Class.{Class}
+use Rattle.record.specs.declared.answers.Class.the-variants as Of
+use Rattle.record.specs.declared.devices.Device.{Device}
 use Rattle.record.specs.Answers.{classOf, isProtected}
 use Rattle.record.specs.Fields.{withRegisters, withIdentity, latchTo, armTo, modeTo, sleepTo, toggleTo}
 use Rattle.record.specs.Resets.{modeRegisterTo, resetOf}
@@ -37,6 +37,7 @@ controlled Reset d = resetOf d
 controlled Toggle d = toggleTo (not (d .volatile .toggle)) d
 
 -- ---- register writes
+-- bit 1 is dropped, so that no record has it (D8)
 abbrev pub statusTo : ℕ → Device → Device
 statusTo v d =
     let r = d .registers in
@@ -57,7 +58,7 @@ configurationsTo v d =
 abbrev pub serialTo : List ℕ → Device → Device
 serialTo v d = withIdentity (record { device = d .identity .device; unique = d .identity .unique; serial = v }) d
 
--- The eight places v, byte 0 first, put into a register: status drops its bit 1, the configurations go in together, the serial number is replaced
+-- The eight places v, byte 0 first (D6), put into a register: status drops its bit 1, the configurations go in together, the serial number is replaced
 -- whole. No command writes the others.
 abbrev pub writtenTo : Register → List ℕ → Device → Device
 writtenTo Status v d = statusTo (getD v 0 0) d
@@ -78,6 +79,7 @@ writtenTo LongIdentity v d = d
 abbrev pub burstDone : Device → Device
 burstDone d = latchTo (afterBurst (d .registers .cr4) (d .volatile .latch)) d
 
+-- the write mode before the write counts (D13)
 abbrev pub registerDone : Register → List ℕ → Device → Device
 registerDone r v d = latchTo (afterRegister (d .registers .cr4) (d .volatile .latch)) (writtenTo r v d)
 
@@ -93,11 +95,11 @@ effectOf (Kinds.Plain c) v d = controlled c d
 effectOf (Kinds.Read s) v d = d
 effectOf (Kinds.Write t) v d = writeDone t v d
 
--- 9 moves the latch as the write would have, and no other answer of its class moves anything
+-- 9 moves the latch as the write would have, and no other answer of its class moves anything (D13)
 abbrev pub declinedTo : Answer → Device → Device
 declinedTo answer d = cond (isProtected answer) (burstDone d) d
 
--- A refusal changes nothing. Every other transaction disarms, but for 66, which arms when it is done.
+-- A refusal changes nothing. Every other transaction disarms, but for 66, which arms when it is done (D17, D53).
 abbrev pub settledIn : Class → Kind → List ℕ → Answer → Device → Device
 settledIn Of.Done k v answer d = effectOf k v (armTo false d)
 settledIn Of.Refused k v answer d = d

@@ -34,10 +34,10 @@ latchNeeded Psram cr4 k = false
 unfoldable pub latchMissing : Family → ℕ → Bool → Kind → Bool
 latchMissing f cr4 latch k = latchNeeded f cr4 k && not latch
 
--- after a burst into memory or area that was stored, or was protected whole: only write mode 0 takes it down
+-- after a burst into memory or area that was stored, or was protected whole: only write mode 0 takes it down (D13)
 abbrev pub afterBurst : ℕ → Bool → Bool
 afterBurst cr4 latch = cond (eqb (writeMode cr4) 0) false latch
 
--- after a register write that was done: only write mode 2 leaves it as it is
+-- after a register write that was done: only write mode 2 leaves it as it is (D13)
 abbrev pub afterRegister : ℕ → Bool → Bool
 afterRegister cr4 latch = cond (eqb (writeMode cr4) 2) latch false

@@ -1,4 +1,4 @@
--- A chip in C's memory: 38 bytes, each field of the record at its place.
+-- A chip in C's memory: 38 bytes, each field of the record at its place (D45).
 --
 --   0 part    1 n
 --   2 status  3 area protection  4 to 7 configuration 1 to 4  8 mode register
@@ -9,10 +9,10 @@ use mathlib.Core.Bool.{Bool, true, false, _&&_}
 use mathlib.Core.List.{List, [], _∷_, _++_}
 use lib.Dec.{eqb, leb}
 use lib.ListN.{length, getD}
-use Rattle.record.specs.declared.Registers.{Registers}
-use Rattle.record.specs.declared.Volatile.{Volatile}
-use Rattle.record.specs.declared.Identities.{Identities}
-use Rattle.record.specs.declared.Device.{Device}
+use Rattle.record.specs.declared.devices.Registers.{Registers}
+use Rattle.record.specs.declared.devices.Volatile.{Volatile}
+use Rattle.record.specs.declared.devices.Identities.{Identities}
+use Rattle.record.specs.declared.devices.Device.{Device}
 
 abbrev pub chipSize : ℕ
 chipSize = 38
@@ -26,7 +26,7 @@ bitOf false = 0
 abbrev pub isFlag : ℕ → List ℕ → Bool
 isFlag at bs = leb (getD bs at 0) 1
 
--- whether bytes are a chip's at all: as many as there are, and the four flags are flags
+-- whether bytes are a chip's at all: as many as there are, and the four flags are flags (D46)
 unfoldable pub isChip : List ℕ → Bool
 isChip bs = eqb (length bs) chipSize && (isFlag 10 bs && (isFlag 11 bs && (isFlag 12 bs && isFlag 13 bs)))
 

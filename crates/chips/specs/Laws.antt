@@ -12,12 +12,12 @@ use lib.ListN.{length, getD, take, drop, set, length-append, drop-of-length-le}
 use lib.Seq.{drop-cons, take-all, take-append-seam, drop-append-add, lt-length-sets, sets-eq}
 use borrow.Author.Tests.{eqb-true, leb-true}
 use Rattle.basis.specs.Truth.{both-true}
-use Rattle.pages.specs.Page.{Page, page, putsOf}
-use Rattle.pages.specs.Laws.{puts-append, puts-front}
+use Rattle.buffers.specs.Page.{Page, page, putsOf}
+use Rattle.buffers.specs.Laws.{puts-append, puts-front}
 use Rattle.counts.specs.declared.Counts.{Counts}
-use Rattle.record.specs.declared.Volatile.{Volatile}
-use Rattle.record.specs.declared.Identities.{Identities}
-use Rattle.record.specs.declared.Device.{Device}
+use Rattle.record.specs.declared.devices.Volatile.{Volatile}
+use Rattle.record.specs.declared.devices.Identities.{Identities}
+use Rattle.record.specs.declared.devices.Device.{Device}
 use Rattle.chips.specs.Chips.{chipSize, bitOf, isFlag, isChip, eightAt, volatileAt, identitiesAt, chipOf, fieldsOf, bytesOf}
 use Rattle.chips.specs.Words.{countsOf}
 

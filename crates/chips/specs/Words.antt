@@ -1,4 +1,4 @@
--- Numbers in lent words. Words of another number than is due are left as they are.
+-- Numbers in lent words. Words of another number than is due are left as they are (D47).
 use Prim.Native.Nat.{ℕ}
 use mathlib.Core.Bool.{Bool, cond}
 use mathlib.Core.List.{List, [], _∷_}

@@ -3,11 +3,11 @@
 ghost use mathlib.Core.Path.{_≡_};
 ghost use Prim.Native.Nat.{_+_, _≤_};
 ghost use lib.ListN.{length};
-ghost use Rattle.pages.specs.Page.{page, putsOf};
+ghost use Rattle.buffers.specs.Page.{page, putsOf};
 ghost use Rattle.chips.specs.Chips.{chipSize, bitOf, isChip, eightAt, registersAt, volatileAt, identitiesAt, chipOf, fieldsOf, bytesOf};
 ghost use Rattle.chips.specs.Words.{countsOver, numberOver};
+use buffers::put_all;
 use counts::Counts;
-use pages::put_all;
 use record::Device;
 use record::Identities;
 use record::Make;
@@ -187,11 +187,16 @@ pub fn put_counts(c: Counts, words: &mut [usize])
     if words.len() != COUNTS {
         return;
     }
-    words[0] = c.command.0;
-    words[1] = c.address.0;
-    words[2] = c.wait.0;
-    words[3] = c.body.0;
-    words[4] = c.rest.0;
+    let command = c.command;
+    let address = c.address;
+    let wait = c.wait;
+    let body = c.body;
+    let rest = c.rest;
+    words[0] = command.in_clocks();
+    words[1] = address.in_clocks();
+    words[2] = wait.in_clocks();
+    words[3] = body.in_clocks();
+    words[4] = rest.in_clocks();
 }
 
 // One number, put into the one word that is lent for it.

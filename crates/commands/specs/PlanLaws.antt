@@ -11,7 +11,7 @@ use lib.ListN.{length, getD, List·getD-append}
 use Rattle.units.specs.declared.Wires.{Wires}
 use Rattle.units.specs.declared.Wires.the-variants.{One, Two, Four}
 use Rattle.units.specs.Units.{clocks}
-use Rattle.kinds.specs.declared.Reading.the-variants as Reads
+use Rattle.kinds.specs.declared.ReadForm.the-variants as Reads
 use Rattle.kinds.specs.declared.Source.the-variants as From
 use Rattle.kinds.specs.declared.Kind.{Kind}
 use Rattle.kinds.specs.declared.Kind.the-variants.{Unknown, Plain, Read, Write}

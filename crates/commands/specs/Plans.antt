@@ -11,8 +11,8 @@ use Rattle.units.specs.declared.Wires.the-variants as On
 use Rattle.units.specs.Units.{clocks}
 use Rattle.parts.specs.declared.Part.{Part}
 use Rattle.kinds.specs.declared.Register.the-variants.{ModeRegister, LongIdentity}
-use Rattle.kinds.specs.declared.Reading.the-variants as Reads
-use Rattle.kinds.specs.declared.Writing.the-variants as Writes
+use Rattle.kinds.specs.declared.ReadForm.the-variants as Reads
+use Rattle.kinds.specs.declared.WriteForm.the-variants as Writes
 use Rattle.kinds.specs.declared.Source.{Source}
 use Rattle.kinds.specs.declared.Source.the-variants as From
 use Rattle.kinds.specs.declared.Target.{Target}
@@ -90,7 +90,7 @@ laterWires (Write (Into.Memory Writes.Plain)) w = w
 laterWires (Write (Into.Memory Writes.Quad)) w = On.Four
 laterWires (Write Into.Area) w = w
 
--- what the 24 bits of an address name; the PSRAM's 9F has an address that it ignores
+-- what the 24 bits of an address name; the PSRAM's 9F has an address that it ignores (D16)
 abbrev pub addressOf : Kind → Address
 addressOf Unknown = Absent
 addressOf (Plain c) = Absent

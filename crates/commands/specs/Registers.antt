@@ -12,7 +12,7 @@ use Rattle.kinds.specs.declared.Register.the-variants.{Status, AreaProtection, 
 use Rattle.commands.specs.declared.registers.Mapped.{Mapped}
 use Rattle.commands.specs.declared.registers.Mapped.the-variants.{At, Nowhere}
 
--- the fixed sizes
+-- the fixed sizes; a device identity has four bytes on the MRAM and eight on the PSRAM (D7)
 abbrev pub bytesOf : Register → Bytes
 bytesOf Status = bytes 1
 bytesOf AreaProtection = bytes 1
@@ -42,8 +42,7 @@ tablePlace Serial = 9
 tablePlace ModeRegister = 10
 tablePlace LongIdentity = 11
 
--- The register map: an address that no row has is not in it, and all 24 bits count. Area protection and serial number have no address
--- (DECISIONS.md, "The register map").
+-- The register map: an address that no row has is not in it, and all 24 bits count. Area protection and serial number have no address (D5).
 abbrev pub mapOf : Part → List (ℕ × Mapped)
 mapOf M =
     (0x00, At Status)

@@ -5,11 +5,11 @@ use crate::registers::Mapped;
 use crate::registers::register_at;
 use crate::registers::size_of;
 use kinds::Kind;
-use kinds::Reading;
+use kinds::ReadForm;
 use kinds::Register;
 use kinds::Source;
 use kinds::Target;
-use kinds::Writing;
+use kinds::WriteForm;
 use parts::Part;
 use units::Bytes;
 use units::Clocks;
@@ -37,6 +37,9 @@ pub enum Body {
 // Waits in clocks, a row for each wait that the papers name: on one, two and four wires.
 const WAITS: [usize; 15] = [0, 0, 0, 8, 4, 2, 8, 0, 4, 6, 0, 6, 8, 0, 6];
 
+// The row that is not in the table: the wait stands in configuration 2.
+const BY_REGISTER: usize = 5;
+
 // The row of a command's wait.
 fn wait_row(k: Kind) -> usize
     ensures { λ r. ⌜ r ≡ waitRow k ⌝ }
@@ -50,12 +53,12 @@ fn wait_row(k: Kind) -> usize
             Source::Mode => 4,
             Source::Identity => 0,
             Source::Memory(r) => match r {
-                Reading::Plain => 0,
-                Reading::Fast => 2,
-                Reading::Quad => 3,
-                Reading::Wrapped => 4,
+                ReadForm::Plain => 0,
+                ReadForm::Fast => 2,
+                ReadForm::Quad => 3,
+                ReadForm::Wrapped => 4,
             },
-            Source::Area => 5,
+            Source::Area => BY_REGISTER,
         },
         Kind::Write(_) => 0,
     }
@@ -65,7 +68,7 @@ fn wait_row(k: Kind) -> usize
 pub fn waits_by_register(k: Kind) -> bool
     ensures { λ r. ⌜ r ≡ waitsByRegister k ⌝ }
 {
-    wait_row(k) == 5
+    wait_row(k) == BY_REGISTER
 }
 
 // The column of a bus mode.
@@ -79,16 +82,16 @@ fn column(w: Wires) -> usize
     }
 }
 
-// The clocks between address and data. Row 5, which only the augmented read of part M has, is not in the
-// table: its wait stands in the low four bits of configuration 2.
+// The clocks between address and data. Those of the augmented read, which only part M has, stand in the low
+// four bits of configuration 2.
 pub fn wait_of(k: Kind, w: Wires, cr2: u8) -> Clocks
     ensures { λ r. ⌜ r ≡ waitOf k w cr2 ⌝ }
 {
     let row = wait_row(k);
-    if row == 5 {
-        return Clocks((cr2 % 16) as usize);
+    if row == BY_REGISTER {
+        return Clocks::stated((cr2 % 16) as usize);
     }
-    Clocks(WAITS[3 * row + column(w)])
+    Clocks::stated(WAITS[3 * row + column(w)])
 }
 
 // The wires of all that follows the command byte.
@@ -104,10 +107,10 @@ pub fn later_wires(k: Kind, w: Wires) -> Wires
             Source::Mode => w,
             Source::Identity => w,
             Source::Memory(r) => match r {
-                Reading::Plain => w,
-                Reading::Fast => w,
-                Reading::Quad => Wires::Four,
-                Reading::Wrapped => w,
+                ReadForm::Plain => w,
+                ReadForm::Fast => w,
+                ReadForm::Quad => Wires::Four,
+                ReadForm::Wrapped => w,
             },
             Source::Area => w,
         },
@@ -115,8 +118,8 @@ pub fn later_wires(k: Kind, w: Wires) -> Wires
             Target::Register(_) => w,
             Target::Mode => w,
             Target::Memory(r) => match r {
-                Writing::Plain => w,
-                Writing::Quad => Wires::Four,
+                WriteForm::Plain => w,
+                WriteForm::Quad => Wires::Four,
             },
             Target::Area => w,
         },

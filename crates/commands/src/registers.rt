@@ -33,7 +33,7 @@ fn number_of(r: Register) -> usize
 pub fn size_of(r: Register) -> Bytes
     ensures { λ s. ⌜ s ≡ bytesOf r ⌝ }
 {
-    Bytes(SIZES[number_of(r)])
+    Bytes::stated(SIZES[number_of(r)])
 }
 
 // What 65h finds at an address.

@@ -18,12 +18,13 @@ impl Counts {
     pub fn none() -> Self
         ensures { λ r. ⌜ r ≡ noCounts ⌝ }
     {
+        let none = Clocks::none();
         Counts {
-            command: Clocks(0),
-            address: Clocks(0),
-            wait: Clocks(0),
-            body: Clocks(0),
-            rest: Clocks(0),
+            command: none,
+            address: none,
+            wait: none,
+            body: none,
+            rest: none,
         }
     }
 
@@ -32,15 +33,20 @@ impl Counts {
         requires { ⌜ total self .0 ≤ 65535 ⌝ }
         ensures { λ r. ⌜ r ≡ total self ⌝ }
     {
-        Clocks(self.command.0 + self.address.0 + self.wait.0 + self.body.0 + self.rest.0)
+        let command = self.command;
+        let address = self.address;
+        let wait = self.wait;
+        let body = self.body;
+        let rest = self.rest;
+        command.plus(address).plus(wait).plus(body).plus(rest)
     }
 
     pub fn command_tick(mut self) -> Self
         requires { ⌜ total self .0 < 65535 ⌝ }
         ensures { λ r. ⌜ r ≡ commandTick self ⌝ }
     {
-        let x = self.command.0 + 1;
-        self.command.0 = x;
+        let so_far = self.command;
+        self.command = so_far.next();
         self
     }
 
@@ -48,8 +54,8 @@ impl Counts {
         requires { ⌜ total self .0 < 65535 ⌝ }
         ensures { λ r. ⌜ r ≡ addressTick self ⌝ }
     {
-        let x = self.address.0 + 1;
-        self.address.0 = x;
+        let so_far = self.address;
+        self.address = so_far.next();
         self
     }
 
@@ -57,8 +63,8 @@ impl Counts {
         requires { ⌜ total self .0 < 65535 ⌝ }
         ensures { λ r. ⌜ r ≡ waitTick self ⌝ }
     {
-        let x = self.wait.0 + 1;
-        self.wait.0 = x;
+        let so_far = self.wait;
+        self.wait = so_far.next();
         self
     }
 
@@ -66,8 +72,8 @@ impl Counts {
         requires { ⌜ total self .0 < 65535 ⌝ }
         ensures { λ r. ⌜ r ≡ bodyTick self ⌝ }
     {
-        let x = self.body.0 + 1;
-        self.body.0 = x;
+        let so_far = self.body;
+        self.body = so_far.next();
         self
     }
 
@@ -75,8 +81,8 @@ impl Counts {
         requires { ⌜ total self .0 < 65535 ⌝ }
         ensures { λ r. ⌜ r ≡ restTick self ⌝ }
     {
-        let x = self.rest.0 + 1;
-        self.rest.0 = x;
+        let so_far = self.rest;
+        self.rest = so_far.next();
         self
     }
 }

@@ -14,10 +14,10 @@ use Rattle.basis.specs.Truth.{both-true}
 use Rattle.parts.specs.declared.Part.{Part}
 use Rattle.parts.specs.declared.Part.the-variants.{M, P}
 use Rattle.parts.specs.Parts.{partOf, knownPart, leastOf, mostOf, offered}
-use Rattle.record.specs.declared.Device.{Device}
+use Rattle.record.specs.declared.devices.Device.{Device}
 use Rattle.paper.specs.Storing.{Lent}
 use Rattle.paper.specs.Transaction.{sizedFor, roomFor, sampled}
-use Rattle.parting.specs.Parting.{Passed}
+use Rattle.machine_stretches.specs.Stretches.{Passed}
 
 -- no memory is larger than an address reaches
 pub most-le : (p : Part) → mostOf p ≤ 24

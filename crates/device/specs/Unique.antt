@@ -4,11 +4,11 @@ use mathlib.Core.Path.{_≡_, refl}
 use Prim.Native.Nat.{ℕ}
 use mathlib.Core.List.{List}
 use Rattle.basis.specs.Unique.{unique}
-use Rattle.record.specs.declared.Device.{Device}
+use Rattle.record.specs.declared.devices.Device.{Device}
 use Rattle.paper.specs.Storing.{Lent}
 use Rattle.paper.specs.Transaction.{World, transactOf, powerOf}
-use Rattle.record.specs.declared.Outcome.{Outcome}
-use Rattle.words.specs.Words.{worldOf, outcomeIn}
+use Rattle.record.specs.declared.devices.Outcome.{Outcome}
+use Rattle.contract_words.specs.Words.{worldOf, outcomeIn}
 
 -- a result, and what is lent as the call leaves it
 pub record Ended : Type 0 where

@@ -3,13 +3,18 @@ ghost use mathlib.Core.Path.{_≡_};
 ghost use mathlib.Core.List.{[]};
 ghost use lib.ListN.{length, replicate};
 ghost use Rattle.paper.specs.Transaction.{sizedFor, roomFor, sampled, transactOf, powerOf};
-ghost use Rattle.words.specs.Words.{lends, worldOf};
+ghost use Rattle.contract_words.specs.Words.{lends, worldOf};
 use parts::Family;
 use parts::Part;
 use record::Answer;
 use record::Device;
 use record::Outcome;
 use record::unclocked;
+use units::Bytes;
+use units::Clocks;
+
+// How many levels four wires have.
+const LEVELS: u8 = 16;
 
 // Whether part and n are in range, and what is lent has the sizes that they give.
 fn is_sized(d: Device, memory: &[u8], area: &[u8]) -> bool
@@ -24,22 +29,21 @@ fn is_sized(d: Device, memory: &[u8], area: &[u8]) -> bool
     if !parts::is_offered(part, n) {
         return false;
     }
-    let size = places::memory_size(n);
-    if memory.len() != size.0 {
+    if !Bytes::of_store(memory).same(places::memory_size(n)) {
         return false;
     }
-    let edge = part.area();
-    area.len() == edge.0
+    Bytes::of_store(area).same(part.area())
 }
 
 // Whether the clocks are few enough, and the output has room for what they drive.
 fn has_room(samples: &[u8], output: &[u8]) -> bool
     ensures { λ r. ⌜ r ≡ roomFor (now (samples .entry)) (now (output .entry)) ⌝ }
 {
-    if 65535 < samples.len() {
-        return false;
+    let clocks = Clocks::of_samples(samples);
+    if clocks.at_most(Clocks::longest()) {
+        return clocks.at_most(Clocks::of_samples(output));
     }
-    samples.len() <= output.len()
+    false
 }
 
 // Whether every sample is a level of four wires.
@@ -49,7 +53,7 @@ fn is_sampled(samples: &[u8]) -> bool
     let mut i = 0;
     while i < samples.len() {
         let x = samples[i];
-        if 16 <= x {
+        if LEVELS <= x {
             return false;
         }
         i += 1;
@@ -75,7 +79,7 @@ pub fn power_cycle(d: Device, memory: &mut [u8], area: &[u8]) -> Outcome
     if !is_sized(d, memory, area) {
         return unclocked(Answer::Size, d);
     }
-    if !values::valid(d) {
+    if !state_check::valid(d) {
         return unclocked(Answer::State, d);
     }
     let part = Part::of(d.make.part);
@@ -107,8 +111,8 @@ pub fn transact(
     if !is_sampled(samples) {
         return unclocked(Answer::Sample, d);
     }
-    if !values::valid(d) {
+    if !state_check::valid(d) {
         return unclocked(Answer::State, d);
     }
-    parting::clocked(d, memory, area, samples, output)
+    machine_stretches::clocked(d, memory, area, samples, output)
 }

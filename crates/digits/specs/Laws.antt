@@ -8,8 +8,8 @@ use mathlib.Core.List.{List, [], _∷_}
 use mathlib.Core.Bool.{true, false}
 use lib.ListN.{length, getD, drop, drop-of-length-le, length-drop}
 use borrow.Author.Tests.{lt-ltb, le-ltb, le-leb, lt-leb}
-use Rattle.pages.specs.Page.{Page, putOf, putsOf}
-use Rattle.pages.specs.Laws.{Left, none-put, put-one, all-put, drop-one}
+use Rattle.buffers.specs.Page.{Page, putOf, putsOf}
+use Rattle.buffers.specs.Laws.{Left, none-put, put-one, all-put, drop-one}
 use Rattle.digits.specs.Digits.{digitOf, none, some, numberFrom, areDigits, pairOf, pairsOf}
 
 -- the sum so far is no more than the most, and with what is left it comes to the whole

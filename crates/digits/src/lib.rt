@@ -1,8 +1,8 @@
 // Words as a person writes them: numbers, and bytes as pairs of hexadecimal digits.
 ghost use mathlib.Core.Path.{_≡_};
-ghost use Rattle.pages.specs.Page.{page, putsOf};
+ghost use Rattle.buffers.specs.Page.{page, putsOf};
 ghost use Rattle.digits.specs.Digits.{digitOf, none, numberOf, pairOf, pairsOf, isPaired};
-use pages::put;
+use buffers::put;
 
 // The number that a word is, or that it is none.
 pub struct Number {

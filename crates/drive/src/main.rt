@@ -1,21 +1,24 @@
 // Builds one command from words, `drive P 0B 4 000123 --read 4`, and shows its samples, its clocks and its bytes, or
-// writes it as a record of a tape. What cannot be built is told on standard error.
-use arguments::Asked;
-use arguments::ended;
-use arguments::is_whole;
-use arguments::not_so;
-use arguments::nothing_asked;
-use arguments::take_word;
+// writes it as a record of a tape. What cannot be built is told on standard error (D43).
+use drive_arguments::Asked;
+use drive_arguments::ended;
+use drive_arguments::is_whole;
+use drive_arguments::not_so;
+use drive_arguments::nothing_asked;
+use drive_arguments::take_word;
 use drive_rows::show;
 use drive_texts::put_long;
 use drive_texts::put_refusal;
 use drive_texts::put_wrong;
-use orders::Order;
+use host_order::Order;
 use record::is_done;
 use text::flush_to;
 use text::put;
 use units::Bytes;
 use units::Clocks;
+
+// The most samples of a transaction on a tape.
+const MOST_SAMPLES: usize = 4096;
 
 // What was asked, and the length of the last word.
 struct Heard {
@@ -62,7 +65,7 @@ fn order_of(a: Asked) -> Order {
         mode: a.mode,
         address: a.address,
         cr2: a.wait,
-        wanted: Bytes(a.wanted as usize),
+        wanted: Bytes::stated(a.wanted as usize),
     }
 }
 
@@ -87,8 +90,8 @@ fn put_fresh(page: &mut [u8], at: usize, a: Asked) -> usize {
 // The records of a tape. A transaction on it is shorter than others may be.
 fn write_tape(page: &mut [u8], a: Asked, samples: &[u8]) {
     let n = samples.len();
-    if 4096 < n {
-        let b = put_long(page, 0, Clocks(n));
+    if MOST_SAMPLES < n {
+        let b = put_long(page, 0, Clocks::of_samples(samples));
         flush_to(2, page, b);
         return;
     }
@@ -104,14 +107,16 @@ fn tell(page: &mut [u8], a: Asked, written: &[u8], samples: &[u8]) {
         write_tape(page, a, samples);
         return;
     }
-    show(page, order_of(a), Clocks(samples.len()), written, samples);
+    let all = Clocks::of_samples(samples);
+    show(page, order_of(a), all, written, samples);
 }
 
 fn build(page: &mut [u8], a: Asked, written: &[u8], samples: &mut [u8]) {
     let o = order_of(a);
     let r = host::build(o, written, samples);
     let answer = r.answer;
-    let n = r.clocks.0;
+    let clocks = r.clocks;
+    let n = clocks.in_clocks();
     if !is_done(answer) {
         let b = put_refusal(page, 0, o, answer);
         flush_to(2, page, b);

@@ -1,23 +1,22 @@
-// A command that was built, for people: the same rows as a tape's list has, and the samples by phase.
+// A command that was built, for people: the same rows as a tape's list has, and the samples by phase (D42).
 use commands::plans::Body;
 use commands::plans::address_of;
 use commands::plans::later_wires;
 use commands::plans::wait_of;
 use counts::Counts;
+use host_order::Order;
+use host_order::body_asked;
+use host_order::kind_asked;
 use kinds::Kind;
 use list_clocks::put_counts;
 use list_clocks::put_first;
 use list_names::put_part;
-use list_rows::over;
 use list_rows::put_clocks;
 use list_views::View;
 use list_views::data_from;
 use list_views::sum;
 use list_views::view_of;
-use orders::Order;
-use orders::body_asked;
-use orders::kind_asked;
-use phases::address_length;
+use plan_in_force::address_length;
 use record::Device;
 use record::Make;
 use record::mode_wires;
@@ -28,19 +27,27 @@ use units::Bytes;
 use units::Clocks;
 use units::bytes_to_clocks;
 
+// What clocks leave of all.
+fn left_by(some: Clocks, all: Clocks) -> Clocks {
+    if some.at_most(all) {
+        return all.less(some);
+    }
+    Clocks::none()
+}
+
 // The clocks of each phase: the data has what the others leave.
 fn counts_of(o: Order, k: Kind, all: Clocks) -> Counts {
     let w = mode_wires(o.mode);
-    let command = bytes_to_clocks(Bytes(1), w);
+    let command = bytes_to_clocks(Bytes::one(), w);
     let address = address_length(address_of(k), later_wires(k, w));
     let wait = wait_of(k, w, o.cr2);
-    let body = over(over(over(all.0, command.0), address.0), wait.0);
+    let body = left_by(wait, left_by(address, left_by(command, all)));
     Counts {
         command,
         address,
         wait,
-        body: Clocks(body),
-        rest: Clocks(0),
+        body,
+        rest: Clocks::none(),
     }
 }
 
@@ -65,8 +72,9 @@ fn put_rows(page: &mut [u8], at: usize, v: View, c: Counts, all: Clocks) -> usiz
 }
 
 // The samples of a phase behind a space, a digit each, where it has any.
-fn put_phase(page: &mut [u8], at: usize, samples: &[u8], from: usize, c: Clocks) -> usize {
-    let n = c.0;
+fn put_phase(page: &mut [u8], at: usize, samples: &[u8], before: Clocks, c: Clocks) -> usize {
+    let from = before.in_clocks();
+    let n = c.in_clocks();
     if n == 0 {
         return at;
     }
@@ -83,17 +91,17 @@ fn put_phase(page: &mut [u8], at: usize, samples: &[u8], from: usize, c: Clocks)
 
 // The phases but for the data.
 fn put_fronts(page: &mut [u8], at: usize, samples: &[u8], c: Counts) -> usize {
-    let address = c.command.0;
-    let wait = sum(address, c.address.0, samples.len());
+    let address = c.command;
+    let wait = sum(address, c.address, Clocks::of_samples(samples));
     let a = put_all(page, at, b"  samples  ");
-    let b = put_phase(page, a, samples, 0, c.command);
+    let b = put_phase(page, a, samples, Clocks::none(), c.command);
     let d = put_phase(page, b, samples, address, c.address);
     put_phase(page, d, samples, wait, c.wait)
 }
 
 // All samples. The data alone may fill the page.
 fn put_samples(page: &mut [u8], at: usize, samples: &[u8], c: Counts) -> usize {
-    let body = data_from(c, samples.len());
+    let body = data_from(c, Clocks::of_samples(samples));
     let a = put_fronts(page, at, samples, c);
     let b = text::flush(page, a);
     let d = put_phase(page, b, samples, body, c.body);
@@ -139,7 +147,7 @@ fn put_sent(bytes: &mut [u8], v: View, b: Body, written: &[u8]) -> usize {
 fn put_bytes(page: &mut [u8], at: usize, v: View, b: Body, written: &[u8]) -> usize {
     let mut bytes = io::large_buffer();
     let n = put_sent(&mut bytes, v, b, written);
-    put_first(page, at, b"  bytes     ", &bytes, n)
+    put_first(page, at, b"  bytes     ", &bytes, Bytes::stated(n))
 }
 
 // Writes it all to standard output.

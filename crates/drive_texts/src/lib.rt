@@ -1,13 +1,13 @@
 // What is said of a command that cannot be built: a word that is wrong or missing, and each refusal.
-use arguments::Asked;
 use commands::plans::Body;
+use drive_arguments::Asked;
+use host_order::Order;
+use host_order::body_asked;
+use host_order::kind_asked;
 use list_answers::put_named;
 use list_names::put_part;
 use list_names::put_wires;
 use list_rows::put_bytes;
-use orders::Order;
-use orders::body_asked;
-use orders::kind_asked;
 use parts::Part;
 use record::Answer;
 use record::answer_number;
@@ -96,13 +96,13 @@ fn many(b: Body) -> usize {
 }
 
 // The bytes of a command whose data has a size.
-fn size_of(b: Body) -> usize {
+fn size_of(b: Body) -> Bytes {
     match b {
-        Body::Nothing => 0,
-        Body::FixedRead(size) => size.0,
-        Body::AnyRead => 0,
-        Body::FixedWrite(size) => size.0,
-        Body::AnyWrite => 0,
+        Body::Nothing => Bytes::none(),
+        Body::FixedRead(size) => size,
+        Body::AnyRead => Bytes::none(),
+        Body::FixedWrite(size) => size,
+        Body::AnyWrite => Bytes::none(),
     }
 }
 
@@ -124,12 +124,12 @@ fn put_count(page: &mut [u8], at: usize, text: usize, b: Body) -> usize {
     put_all(page, d, b".\n")
 }
 
-fn put_size(page: &mut [u8], at: usize, size: usize) -> usize {
-    if size == 0 {
+fn put_size(page: &mut [u8], at: usize, size: Bytes) -> usize {
+    if size.same(Bytes::none()) {
         return at;
     }
     let b = put_all(page, at, b" ");
-    put_bytes(page, b, Bytes(size))
+    put_bytes(page, b, size)
 }
 
 // An opcode that the part has not in this mode.
@@ -177,6 +177,6 @@ pub fn put_long(page: &mut [u8], at: usize, c: Clocks) -> usize {
         at,
         b"drive: a transaction on a tape has at most 4,096 samples, and this has ",
     );
-    let d = put_decimal(page, b, c.0 as u64);
+    let d = put_decimal(page, b, c.in_clocks() as u64);
     put_all(page, d, b".\n")
 }

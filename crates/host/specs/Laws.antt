@@ -7,22 +7,24 @@ use mathlib.Core.List.{List, []}
 use lib.ListN.{length}
 use borrow.Author.Tests.{ltb-false}
 use Rattle.basis.specs.Truth.{neither}
+use Rattle.units.specs.declared.Clocks.{Clocks}
+use Rattle.units.specs.declared.Bytes.{Bytes}
 use Rattle.units.specs.Units.{clocks, bytes, fewer, longest}
 use Rattle.kinds.specs.declared.Kind.{Kind}
-use Rattle.record.specs.declared.Answer.{Answer}
+use Rattle.record.specs.declared.answers.Answer.{Answer}
 use Rattle.record.specs.Devices.{modeWires}
-use Rattle.pages.specs.Page.{Page, page, putsOf}
-use Rattle.pages.specs.Laws.{puts-front}
+use Rattle.buffers.specs.Page.{Page, page, putsOf}
+use Rattle.buffers.specs.Laws.{puts-front}
 use Rattle.record.specs.Answers.{isDone}
 use Rattle.paper.specs.Reading.{many}
 use Rattle.paper.specs.Laws.{unrefused-when, fit-when}
 use Rattle.paper.specs.Transaction.{over}
 use Rattle.paper.specs.Building.{Order, kindAsked, builtOf, told, refusalsOf, buildOf}
 use Rattle.paper.specs.Collecting.{collected, unfitOf, collectOf}
-use Rattle.orders.specs.declared.Order as code
-use Rattle.orders.specs.Orders.{orderAs}
-use Rattle.building.specs.Sizes as building
-use Rattle.collecting.specs.Refusals as collecting
+use Rattle.host_order.specs.declared.Order as code
+use Rattle.host_order.specs.Orders.{orderAs}
+use Rattle.host_build.specs.Sizes as building
+use Rattle.host_gather.specs.Refusals as collecting
 
 -- ---- what a call tells, for any unit
 module _ {U : Type 0} (unit : ℕ → U) (v : Answer) (xs out : List ℕ) where
@@ -50,15 +52,20 @@ module _ (o : Order) (out : List ℕ) {v : Answer} (e : v ≡ building.refusalOf
   unfolding building.refusalOf buildOf
   build-refused n = told-refused clocks v xs out n ∙ ap (λ (u : Answer). told clocks u xs out) e
 
-  -- a row that does not hold tells that there is room
-  build-room : isDone v ≡ true → length xs ≤ length out
-  unfolding building.refusalOf
-  build-room d =
-      let c = unrefused-when (refusalsOf o (kindAsked o) out) (ap isDone (sym e) ∙ d) in
-      ltb-false (length out) (length xs) (neither (fewer longest (many xs)) _ (c .noRoom) .1)
+  -- a row that does not hold tells that the clocks are no more than a transaction has, and that there is room
+  module _ (d : isDone v ≡ true) where
+    checked-room : (fewer longest (many xs) ≡ false) × (fewer (many out) (many xs) ≡ false)
+    unfolding building.refusalOf
+    checked-room = neither (fewer longest (many xs)) _ (unrefused-when (refusalsOf o (kindAsked o) out) (ap isDone (sym e) ∙ d) .noRoom)
 
-  pub build-done : {n : ℕ} {out′ : List ℕ} → isDone v ≡ true → page n out′ ≡ putsOf xs (page 0 out)
-      → record { answer = v; number = clocks n; buffer = out′ } ≡ buildOf o out
+    pub build-few : length xs ≤ 65535
+    build-few = ltb-false 65535 (length xs) (checked-room .0)
+
+    build-room : length xs ≤ length out
+    build-room = ltb-false (length out) (length xs) (checked-room .1)
+
+  pub build-done : {n : Clocks} {out′ : List ℕ} → isDone v ≡ true → page (n .0) out′ ≡ putsOf xs (page 0 out)
+      → record { answer = v; number = n; buffer = out′ } ≡ buildOf o out
   unfolding building.refusalOf buildOf
   build-done d p = told-done clocks v xs out d (build-room d) p ∙ ap (λ (u : Answer). told clocks u xs out) e
 
@@ -76,7 +83,7 @@ module _ (wires : ℕ) (driven out : List ℕ) {v : Answer} (e : v ≡ collectin
   gather-room d =
       ltb-false (length out) (length bs) (fit-when (unfitOf wires driven out) (ap isDone (sym e) ∙ d) .noRoom)
 
-  pub gather-done : {n : ℕ} {out′ : List ℕ} → isDone v ≡ true → page n out′ ≡ putsOf bs (page 0 out)
-      → record { answer = v; number = bytes n; buffer = out′ } ≡ collectOf wires driven out
+  pub gather-done : {n : Bytes} {out′ : List ℕ} → isDone v ≡ true → page (n .0) out′ ≡ putsOf bs (page 0 out)
+      → record { answer = v; number = n; buffer = out′ } ≡ collectOf wires driven out
   unfolding collecting.refusalOf collectOf
   gather-done d p = told-done bytes v bs out d (gather-room d) p ∙ ap (λ (u : Answer). told bytes u bs out) e

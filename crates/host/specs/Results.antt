@@ -1,4 +1,4 @@
--- What a call gives and leaves in its buffer, as the paper tells it.
+-- What a call gives and leaves in its buffer, as the paper tells it (D61).
 use Prim.Native.Nat.{ℕ}
 use mathlib.Core.List.{List}
 use Rattle.units.specs.declared.Clocks.{Clocks}

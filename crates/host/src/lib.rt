@@ -2,12 +2,12 @@
 ghost use mathlib.Core.Path.{_≡_};
 ghost use Rattle.paper.specs.Building.{buildOf};
 ghost use Rattle.paper.specs.Collecting.{collectOf};
-ghost use Rattle.orders.specs.Orders.{orderAs};
+ghost use Rattle.host_order.specs.Orders.{orderAs};
 ghost use Rattle.host.specs.Results.{builtAs, gatheredAs};
-use building::put_built;
-use collecting::put_collected;
-use orders::Order;
-use orders::kind_asked;
+use host_build::put_built;
+use host_gather::put_collected;
+use host_order::Order;
+use host_order::kind_asked;
 use record::Answer;
 use record::is_done;
 use record::mode_wires;
@@ -31,34 +31,31 @@ pub fn build(o: Order, written: &[u8], samples: &mut [u8]) -> Built
     ensures { λ r. ⌜ builtAs r (now (samples .exit)) ≡ buildOf (orderAs o (now (written .entry))) (now (samples .entry)) ⌝ }
 {
     let k = kind_asked(o);
-    let answer = building::refusal(o, k, written, samples);
+    let answer = host_build::refusal(o, k, written, samples);
     if !is_done(answer) {
         return Built {
             answer,
-            clocks: Clocks(0),
+            clocks: Clocks::none(),
         };
     }
-    let n = put_built(o, k, written, samples);
-    Built {
-        answer,
-        clocks: Clocks(n),
-    }
+    let clocks = put_built(o, k, written, samples);
+    Built { answer, clocks }
 }
 
 // The bytes of what the device drove on so many wires.
 pub fn gather(wires: u8, driven: &[u8], bytes: &mut [u8]) -> Gathered
     ensures { λ r. ⌜ gatheredAs r (now (bytes .exit)) ≡ collectOf wires (now (driven .entry)) (now (bytes .entry)) ⌝ }
 {
-    let verdict = collecting::refusal(wires, driven, bytes);
+    let verdict = host_gather::refusal(wires, driven, bytes);
     if !is_done(verdict) {
         return Gathered {
             answer: verdict,
-            bytes: Bytes(0),
+            bytes: Bytes::none(),
         };
     }
-    let n = put_collected(mode_wires(wires), driven, bytes);
+    let count = put_collected(mode_wires(wires), driven, bytes);
     Gathered {
         answer: verdict,
-        bytes: Bytes(n),
+        bytes: count,
     }
 }

@@ -35,26 +35,26 @@ pub enum Register {
 }
 
 // How a memory read is clocked, and a memory write.
-pub enum Reading {
+pub enum ReadForm {
     Plain,
     Fast,
     Quad,
     Wrapped,
 }
 
-pub enum Writing {
+pub enum WriteForm {
     Plain,
     Quad,
 }
 
 // What a command reads. The PSRAM's mode register and its identity are read with an address, so they stand
-// apart from the registers without one; `Map` is the register that an address names.
+// apart from the registers without one; `Map` is the register that an address names (D58).
 pub enum Source {
     Register(Register),
     Map,
     Mode,
     Identity,
-    Memory(Reading),
+    Memory(ReadForm),
     Area,
 }
 
@@ -62,11 +62,11 @@ pub enum Source {
 pub enum Target {
     Register(Register),
     Mode,
-    Memory(Writing),
+    Memory(WriteForm),
     Area,
 }
 
-// What a command does.
+// What a command does, in four cases (D58).
 pub enum Kind {
     Unknown,
     Plain(Control),

@@ -6,6 +6,7 @@ use kinds::Target;
 use list_views::View;
 use list_views::byte_at;
 use list_views::first_above;
+use list_views::is_addressed;
 use list_views::sum;
 use record::Answer;
 use record::answer_number;
@@ -13,6 +14,7 @@ use text::put_all;
 use text::put_decimal;
 use text::put_hex;
 use text::put_word;
+use units::Clocks;
 
 // An answer by number and name.
 pub fn put_named(page: &mut [u8], at: usize, a: Answer) -> usize {
@@ -57,7 +59,7 @@ fn short_of(v: View) -> usize {
     if v.located {
         return lacking(k);
     }
-    if phases::address_clocks(s, k).0 == 0 {
+    if !is_addressed(s, k) {
         return lacking(k);
     }
     2
@@ -132,9 +134,10 @@ fn put_done(page: &mut [u8], at: usize, k: Kind) -> usize {
 fn put_sample(page: &mut [u8], at: usize, samples: &[u8]) -> usize {
     let i = first_above(samples);
     let a = put_all(page, at, b"clock ");
-    let b = put_decimal(page, a, sum(i, 1, samples.len()) as u64);
+    let n = sum(i, Clocks::stated(1), Clocks::of_samples(samples));
+    let b = put_decimal(page, a, n.in_clocks() as u64);
     let c = put_all(page, b, b" has the sample ");
-    let d = put_hex(page, c, byte_at(samples, i) as u64, 2);
+    let d = put_hex(page, c, byte_at(samples, i.in_clocks()) as u64, 2);
     put_all(page, d, b", and four wires carry no more than 0F.\n")
 }
 

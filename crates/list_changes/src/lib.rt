@@ -151,13 +151,13 @@ fn tell(page: &mut [u8], t: Tally, name: &[u8], i: usize, old: u8, new: u8) -> T
     }
     Tally {
         to: t.to,
-        count: after(count),
+        count: following(count),
         last,
     }
 }
 
 // The next number, as far as a tape can count.
-pub fn after(count: u64) -> u64 {
+pub fn following(count: u64) -> u64 {
     if count < 1000000 {
         return count + 1;
     }

@@ -14,17 +14,10 @@ use list_views::gather;
 use record::Answer;
 use text::put_all;
 use text::put_hex;
+use units::Bytes;
 use units::Clocks;
 use units::Wires;
-
-// The number of wires, to tell one bus mode from another.
-fn wires_number(w: Wires) -> u8 {
-    match w {
-        Wires::One => 1,
-        Wires::Two => 2,
-        Wires::Four => 4,
-    }
-}
+use units::wire_count;
 
 // The bus mode. Some commands go on with more wires than they began.
 fn put_bus(page: &mut [u8], at: usize, v: View) -> usize {
@@ -33,7 +26,7 @@ fn put_bus(page: &mut [u8], at: usize, v: View) -> usize {
     let later = v.later;
     let a = put_all(page, at, b"  bus       ");
     let b = put_wires(page, a, w);
-    if wires_number(w) == wires_number(later) {
+    if wire_count(w) == wire_count(later) {
         return put_all(page, b, b"\n");
     }
     put_all(page, b, b", and four after the command\n")
@@ -123,9 +116,10 @@ pub fn put_counts(page: &mut [u8], at: usize, v: View, c: Counts) -> usize {
 }
 
 // The first `n` bytes in a row.
-pub fn put_first(page: &mut [u8], at: usize, label: &[u8], bytes: &[u8], n: usize) -> usize {
-    if n <= bytes.len() {
-        return put_row(page, at, label, &bytes[..n]);
+pub fn put_first(page: &mut [u8], at: usize, label: &[u8], bytes: &[u8], n: Bytes) -> usize {
+    let till = n.in_bytes();
+    if till <= bytes.len() {
+        return put_row(page, at, label, &bytes[..till]);
     }
     at
 }
@@ -146,8 +140,9 @@ fn put_carried(
 
 fn put_written(page: &mut [u8], at: usize, v: View, c: Counts, samples: &[u8]) -> usize {
     let w = v.later;
-    let from = data_from(c, samples.len());
-    let till = data_till(c, samples.len());
+    let all = Clocks::of_samples(samples);
+    let from = data_from(c, all).in_clocks();
+    let till = data_till(c, all).in_clocks();
     if samples.len() < till {
         return at;
     }
@@ -164,8 +159,9 @@ fn put_driven(page: &mut [u8], at: usize, w: Wires, clocks: &[u8]) -> usize {
 
 fn put_read(page: &mut [u8], at: usize, v: View, c: Counts, output: &[u8]) -> usize {
     let w = v.later;
-    let from = data_from(c, output.len());
-    let till = data_till(c, output.len());
+    let all = Clocks::of_samples(output);
+    let from = data_from(c, all).in_clocks();
+    let till = data_till(c, all).in_clocks();
     if output.len() < till {
         return at;
     }

@@ -1,5 +1,5 @@
 // The end of the list.
-use list_rows::over;
+use list_rows::excess;
 use list_rows::put_bytes;
 use tape::Entry;
 use tape::Fault;
@@ -10,7 +10,7 @@ use units::Bytes;
 
 fn put_cut(page: &mut [u8], at: usize, tape: &[u8], offset: usize) -> usize {
     let a = put_all(page, at, b"the record is cut short, the tape ends after ");
-    let b = put_bytes(page, a, Bytes(over(tape.len(), offset)));
+    let b = put_bytes(page, a, Bytes::stated(excess(tape.len(), offset)));
     put_all(page, b, b" of it.\n")
 }
 

@@ -2,11 +2,11 @@
 // dear to prove.
 use kinds::Control;
 use kinds::Kind;
-use kinds::Reading;
+use kinds::ReadForm;
 use kinds::Register;
 use kinds::Source;
 use kinds::Target;
-use kinds::Writing;
+use kinds::WriteForm;
 use parts::Part;
 use text::put_word;
 use units::Wires;
@@ -62,19 +62,19 @@ fn register(r: Register) -> usize {
     }
 }
 
-fn reading(r: Reading) -> usize {
+fn reading(r: ReadForm) -> usize {
     match r {
-        Reading::Plain => 23,
-        Reading::Fast => 24,
-        Reading::Quad => 25,
-        Reading::Wrapped => 26,
+        ReadForm::Plain => 23,
+        ReadForm::Fast => 24,
+        ReadForm::Quad => 25,
+        ReadForm::Wrapped => 26,
     }
 }
 
-fn writing(w: Writing) -> usize {
+fn writing(w: WriteForm) -> usize {
     match w {
-        Writing::Plain => 27,
-        Writing::Quad => 28,
+        WriteForm::Plain => 27,
+        WriteForm::Quad => 28,
     }
 }
 

@@ -2,7 +2,7 @@
 use counts::Counts;
 use list_answers::put_answer;
 use list_answers::put_rule;
-use list_changes::after;
+use list_changes::following;
 use list_changes::put_device;
 use list_changes::put_places;
 use list_clocks::put_counts;
@@ -27,7 +27,7 @@ use units::Clocks;
 // The front of a record's line: its number and offset.
 pub fn put_head(page: &mut [u8], at: usize, k: u64, offset: usize) -> usize {
     let a = put_all(page, at, b"\nrecord ");
-    let b = put_decimal(page, a, after(k));
+    let b = put_decimal(page, a, following(k));
     let c = put_all(page, b, b", offset ");
     let d = put_decimal(page, c, offset as u64);
     put_all(page, d, b": ")
@@ -52,7 +52,7 @@ fn put_sizes(page: &mut [u8], at: usize, memory: Bytes, area: Bytes) -> usize {
 // A fresh chip, and the bytes that it has.
 fn put_fresh(page: &mut [u8], at: usize, make: Make, memory: &[u8], area: &[u8]) -> usize {
     let a = put_chip(page, at, make);
-    let b = put_sizes(page, a, Bytes(memory.len()), Bytes(area.len()));
+    let b = put_sizes(page, a, Bytes::of_store(memory), Bytes::of_store(area));
     let c = put_answer(page, b, Answer::Done);
     put_all(
         page,
@@ -106,7 +106,7 @@ fn put_clocked(
     output: &[u8],
 ) -> usize {
     let a = put_all(page, at, b"transaction, ");
-    let b = put_clocks(page, a, Clocks(samples.len()), 0);
+    let b = put_clocks(page, a, Clocks::of_samples(samples), 0);
     let d = put_all(page, b, b"\n");
     let e = put_counts(page, d, v, c);
     put_data(page, e, v, c, answer, samples, output)

@@ -8,7 +8,7 @@ use units::Bytes;
 use units::Clocks;
 
 // What `a` has more than `b`.
-pub fn over(a: usize, b: usize) -> usize {
+pub fn excess(a: usize, b: usize) -> usize {
     if b < a {
         return a - b;
     }
@@ -36,13 +36,13 @@ fn put_spaces(page: &mut [u8], at: usize, count: usize) -> usize {
 fn put_right(page: &mut [u8], at: usize, v: u64, width: usize) -> usize {
     let mut digits = [0u8; 20];
     let n = io::decimal(v, &mut digits);
-    let a = put_spaces(page, at, over(width, n));
+    let a = put_spaces(page, at, excess(width, n));
     put_all(page, a, &digits[..n])
 }
 
 // A number of clocks, with the unit.
 pub fn put_clocks(page: &mut [u8], at: usize, c: Clocks, width: usize) -> usize {
-    let v = c.0;
+    let v = c.in_clocks();
     let a = put_right(page, at, v as u64, width);
     if v == 1 {
         return put_all(page, a, b" clock");
@@ -52,7 +52,7 @@ pub fn put_clocks(page: &mut [u8], at: usize, c: Clocks, width: usize) -> usize 
 
 // A number of bytes, with the unit.
 pub fn put_bytes(page: &mut [u8], at: usize, b: Bytes) -> usize {
-    let v = b.0;
+    let v = b.in_bytes();
     let a = put_decimal(page, at, v as u64);
     if v == 1 {
         return put_all(page, a, b" byte");
@@ -106,7 +106,7 @@ pub fn put_row(page: &mut [u8], at: usize, label: &[u8], bytes: &[u8]) -> usize 
     }
     let a = put_all(page, at, label);
     let b = put_cells(page, a, bytes, 32);
-    let c = put_more(page, b, over(n, 32));
+    let c = put_more(page, b, excess(n, 32));
     put_all(page, c, b"\n")
 }
 

@@ -4,6 +4,7 @@ use kinds::Kind;
 use record::Device;
 use record::Setting;
 use text::put;
+use units::Bytes;
 use units::Clocks;
 use units::Wires;
 
@@ -19,6 +20,9 @@ pub struct View {
     pub address: u32,
 }
 
+// What four wires carry at most.
+const MOST_SAMPLE: u8 = 15;
+
 // A byte of a slice, and 0 past its end.
 pub fn byte_at(s: &[u8], i: usize) -> u8 {
     if i < s.len() {
@@ -27,35 +31,37 @@ pub fn byte_at(s: &[u8], i: usize) -> u8 {
     0
 }
 
-// A sum that goes no further than `most`.
-pub fn sum(a: usize, b: usize, most: usize) -> usize {
-    if most < a {
+// A sum that goes no further than `most`: what both leave of that is taken off it.
+pub fn sum(a: Clocks, b: Clocks, most: Clocks) -> Clocks {
+    if !a.at_most(most) {
         return most;
     }
-    if most - a < b {
+    let left = most.less(a);
+    if !b.at_most(left) {
         return most;
     }
-    a + b
+    most.less(left.less(b))
 }
 
-// The first sample above 15, or the end where there is none.
-pub fn first_above(samples: &[u8]) -> usize {
+// The clocks before the first sample above 15, or all where there is none.
+pub fn first_above(samples: &[u8]) -> Clocks {
     let mut i = 0;
     while i < samples.len() {
         let x = samples[i];
-        if 15 < x {
-            return i;
+        if MOST_SAMPLE < x {
+            break;
         }
         i += 1;
     }
-    i
+    Clocks::stated(i)
 }
 
-// The number that the samples from one place to another carry.
-fn number_in(samples: &[u8], from: usize, till: usize, w: Wires) -> u32 {
+// The number that the samples from one clock to another carry.
+fn number_in(samples: &[u8], from: Clocks, till: Clocks, w: Wires) -> u32 {
+    let end = till.in_clocks();
     let mut number = 0;
-    let mut i = from;
-    while i < till {
+    let mut i = from.in_clocks();
+    while i < end {
         number = wires::shift_in(number, byte_at(samples, i), w);
         i += 1;
     }
@@ -64,12 +70,12 @@ fn number_in(samples: &[u8], from: usize, till: usize, w: Wires) -> u32 {
 
 // Whether all command bits came.
 fn is_whole(s: Setting, c: Counts) -> bool {
-    c.command.0 == phases::command_clocks(s).0
+    plan_in_force::command_clocks(s).at_most(c.command)
 }
 
 fn opcode_in(s: Setting, c: Counts, samples: &[u8]) -> u8 {
     let w = s.wires;
-    let number = number_in(samples, 0, c.command.0, w);
+    let number = number_in(samples, Clocks::none(), c.command, w);
     (number % 256) as u8
 }
 
@@ -83,18 +89,22 @@ fn kind_for(s: Setting, whole: bool, opcode: u8) -> Kind {
     opcodes::kind_of(part.family(), w, opcode)
 }
 
-// Whether the command has an address and all its bits came.
+// Whether the command has an address.
+pub fn is_addressed(s: Setting, k: Kind) -> bool {
+    Clocks::none().fewer(plan_in_force::address_clocks(s, k))
+}
+
+// And whether all its bits came.
 fn is_located(s: Setting, k: Kind, c: Counts) -> bool {
-    let due = phases::address_clocks(s, k);
-    if due.0 == 0 {
+    if !is_addressed(s, k) {
         return false;
     }
-    c.address.0 == due.0
+    plan_in_force::address_clocks(s, k).at_most(c.address)
 }
 
 fn address_in(c: Counts, samples: &[u8], w: Wires) -> u32 {
-    let from = c.command.0;
-    let till = sum(from, c.address.0, samples.len());
+    let from = c.command;
+    let till = sum(from, c.address, Clocks::of_samples(samples));
     number_in(samples, from, till, w)
 }
 
@@ -104,7 +114,7 @@ pub fn view_of(d: Device, c: Counts, samples: &[u8]) -> View {
     let whole = is_whole(setting, c);
     let opcode = opcode_in(setting, c, samples);
     let kind = kind_for(setting, whole, opcode);
-    let later = phases::wires_for(setting, kind);
+    let later = plan_in_force::wires_for(setting, kind);
     let located = is_located(setting, kind, c);
     let address = address_in(c, samples, later);
     View {
@@ -119,14 +129,14 @@ pub fn view_of(d: Device, c: Counts, samples: &[u8]) -> View {
 }
 
 // Where the data clocks begin, and where they end, in a transaction of so many clocks.
-pub fn data_from(c: Counts, most: usize) -> usize {
-    let a = sum(c.command.0, c.address.0, most);
-    sum(a, c.wait.0, most)
+pub fn data_from(c: Counts, most: Clocks) -> Clocks {
+    let a = sum(c.command, c.address, most);
+    sum(a, c.wait, most)
 }
 
-pub fn data_till(c: Counts, most: usize) -> usize {
+pub fn data_till(c: Counts, most: Clocks) -> Clocks {
     let a = data_from(c, most);
-    sum(a, c.body.0, most)
+    sum(a, c.body, most)
 }
 
 // What a clock carries: the levels of a driven one stand elsewhere than those of a sample.
@@ -138,24 +148,24 @@ fn levels(x: u8, driven: bool, w: Wires) -> u8 {
 }
 
 // A byte is kept when its last clock has come.
-fn keep_byte(bytes: &mut [u8], n: usize, clocks: usize, w: Wires, number: u32) -> usize {
-    let left = units::unfinished(Clocks(clocks), w);
-    if left.0 == 0 {
-        return put(bytes, n, (number % 256) as u8);
+fn keep_byte(bytes: &mut [u8], n: Bytes, c: Clocks, w: Wires, number: u32) -> Bytes {
+    let left = units::unfinished(c, w);
+    if left.at_most(Clocks::none()) {
+        return Bytes::stated(put(bytes, n.in_bytes(), (number % 256) as u8));
     }
     n
 }
 
 // The whole bytes that clocks carry, and how many they are.
-pub fn gather(clocks: &[u8], driven: bool, w: Wires, bytes: &mut [u8]) -> usize {
-    let mut n = 0;
+pub fn gather(clocks: &[u8], driven: bool, w: Wires, bytes: &mut [u8]) -> Bytes {
+    let mut n = Bytes::none();
     let mut number = 0;
     let mut i = 0;
     while i < clocks.len() {
         let x = clocks[i];
         number = wires::shift_in(number, levels(x, driven, w), w);
         i += 1;
-        n = keep_byte(bytes, n, i, w, number);
+        n = keep_byte(bytes, n, Clocks::stated(i), w, number);
     }
     n
 }

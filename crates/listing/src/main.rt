@@ -4,9 +4,9 @@ use list_endings::put_last;
 use list_paragraphs::put_head;
 use list_paragraphs::put_played;
 use parts::LARGEST_AREA;
-use session::Session;
-use session::Turn;
 use tape::LARGEST_MEMORY;
+use tape_session::Session;
+use tape_session::Turn;
 use text::put_all;
 use units::Bytes;
 
@@ -19,16 +19,17 @@ struct State {
 
 fn start(to: usize) -> State {
     State {
-        session: session::start(),
+        session: tape_session::start(),
         to,
         go: true,
     }
 }
 
 // The first bytes as they are now.
-fn keep(old: &mut [u8], now: &[u8], size: usize) {
-    if size <= now.len() {
-        put_all(old, 0, &now[..size]);
+fn keep(old: &mut [u8], now: &[u8], size: Bytes) {
+    let till = size.in_bytes();
+    if till <= now.len() {
+        put_all(old, 0, &now[..till]);
     }
 }
 
@@ -42,9 +43,11 @@ fn advance(
     memory0: &mut [u8],
     area0: &mut [u8],
 ) -> Turn {
-    keep(memory0, memory, s.socket.memory.0);
-    keep(area0, area, s.socket.area.0);
-    session::advance(s, tape, memory, area, output)
+    let size = s.socket.memory;
+    let edge = s.socket.area;
+    keep(memory0, memory, size);
+    keep(area0, area, edge);
+    tape_session::advance(s, tape, memory, area, output)
 }
 
 // The paragraph of record `k`, which was played from `s`, on the chip's part of memory and area.
@@ -64,8 +67,10 @@ fn put_turn(
     let d = s.device;
     let o = t.outcome;
     let next = t.session;
-    let size = next.socket.memory.0;
-    let edge = next.socket.area.0;
+    let memory_size = next.socket.memory;
+    let area_size = next.socket.area;
+    let size = memory_size.in_bytes();
+    let edge = area_size.in_bytes();
     if memory.len() < size {
         return at;
     }
@@ -167,7 +172,7 @@ fn list(tape: &[u8]) {
     let mut memory0 = [0u8; LARGEST_MEMORY];
     let mut area0 = [0u8; LARGEST_AREA];
     let mut page = io::large_buffer();
-    let to = put_tape(&mut page, Bytes(tape.len()));
+    let to = put_tape(&mut page, Bytes::of_store(tape));
     run(
         tape,
         &mut memory,
@@ -181,13 +186,13 @@ fn list(tape: &[u8]) {
 }
 
 fn main() {
-    let fd = inputs::opened();
+    let fd = tape_input::opened();
     if fd < 0 {
         return;
     }
     let mut tape = io::large_buffer();
     let n = io::read_full(fd, &mut tape);
-    if inputs::has_more(fd) {
+    if tape_input::has_more(fd) {
         io::write_all(
             1,
             b"The tape is over 65,536 bytes, and nothing of it is played.\n",

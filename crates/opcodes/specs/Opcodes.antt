@@ -1,5 +1,5 @@
 -- The opcode decision. Document 01, "Commands of part M" and "Commands of part P": the rows stand in the papers' order, each with its opcode, its
--- meaning and the bus modes in which the family has it. What no row has is unknown, answer 5.
+-- meaning and the bus modes in which the family has it. What no row has is unknown, answer 5 (D3).
 use Prim.Native.Nat.{ℕ}
 use mathlib.Core.Bool.{Bool, true, false, cond}
 use mathlib.Core.List.{List, [], _∷_}
@@ -10,8 +10,8 @@ use Rattle.parts.specs.declared.Family.{Family}
 use Rattle.parts.specs.declared.Family.the-variants.{Mram, Psram}
 use Rattle.kinds.specs.declared.Control.the-variants.{NoOperation, WriteEnable, WriteDisable, ToOne, ToTwo, ToFour, Sleep, Wake, ResetEnable, Reset, Toggle}
 use Rattle.kinds.specs.declared.Register.the-variants.{Status, AreaProtection, Configuration1, Configuration2, Configuration3, Configuration4, Configurations, Identity, Unique, Serial}
-use Rattle.kinds.specs.declared.Reading.the-variants as Reads
-use Rattle.kinds.specs.declared.Writing.the-variants as Writes
+use Rattle.kinds.specs.declared.ReadForm.the-variants as Reads
+use Rattle.kinds.specs.declared.WriteForm.the-variants as Writes
 use Rattle.kinds.specs.declared.Source.the-variants as Source
 use Rattle.kinds.specs.declared.Target.the-variants as Target
 use Rattle.kinds.specs.declared.Kind.{Kind}
@@ -21,15 +21,15 @@ use Rattle.opcodes.specs.declared.Row.{Row}
 use Rattle.opcodes.specs.declared.Modes.the-variants.{Never, One, Four, OneTwo, OneFour, TwoFour, Always}
 
 -- a row's meaning and the bus modes in which the family has it
-pub record Entry : Type 0 where
+pub record Meaning : Type 0 where
   pub kind : Kind
   pub modes : Modes
 
-abbrev row : ℕ → Kind → Modes → ℕ × Entry
+abbrev row : ℕ → Kind → Modes → ℕ × Meaning
 row opcode k m = (opcode, record { kind = k; modes = m })
 
--- The MRAM. The write commands' opcodes come from the makers' instruction tables (DECISIONS.md, "Opcodes that the scan garbles").
-abbrev pub mramRows : List (ℕ × Entry)
+-- The MRAM. The write commands' opcodes come from the makers' instruction tables (D1), and 02 works in every bus mode (D2).
+abbrev pub mramRows : List (ℕ × Meaning)
 mramRows =
     row 0x00 (Plain NoOperation) Always
     ∷ row 0x06 (Plain WriteEnable) Always
@@ -63,7 +63,7 @@ mramRows =
     ∷ []
 
 -- The PSRAM, which has bus modes of one and of four wires.
-abbrev pub psramRows : List (ℕ × Entry)
+abbrev pub psramRows : List (ℕ × Meaning)
 psramRows =
     row 0x03 (Read (Source.Memory Reads.Plain)) One
     ∷ row 0x0B (Read (Source.Memory Reads.Fast)) OneFour
@@ -82,16 +82,17 @@ psramRows =
     ∷ row 0xC0 (Plain Toggle) OneFour
     ∷ []
 
-abbrev pub rowsOf : Family → List (ℕ × Entry)
+-- the rows go by the family (D57)
+abbrev pub rowsOf : Family → List (ℕ × Meaning)
 rowsOf Mram = mramRows
 rowsOf Psram = psramRows
 
--- what stands for an opcode that no row has
-abbrev pub noEntry : Entry
-noEntry = record { kind = Unknown; modes = Never }
+-- what stands for an opcode that no row has (D3)
+abbrev pub noMeaning : Meaning
+noMeaning = record { kind = Unknown; modes = Never }
 
-unfoldable pub entryOf : Family → ℕ → Entry
-entryOf f opcode = look noEntry (rowsOf f) opcode
+unfoldable pub meaningOf : Family → ℕ → Meaning
+meaningOf f opcode = look noMeaning (rowsOf f) opcode
 
 -- the bus mode is one of the row's
 abbrev pub inModes : Modes → Wires → Bool
@@ -118,9 +119,9 @@ kindIn k m w = cond (inModes m w) k Unknown
 
 -- THE DECISION: the kind of a command for family, bus mode and opcode
 abbrev pub kindOf : Family → Wires → ℕ → Kind
-kindOf f w opcode = kindIn (entryOf f opcode .kind) (entryOf f opcode .modes) w
+kindOf f w opcode = kindIn (meaningOf f opcode .kind) (meaningOf f opcode .modes) w
 
 -- both families' entries of an opcode, side by side
 abbrev pub rowOf : ℕ → Row
 rowOf opcode =
-    record { mram = entryOf Mram opcode .kind; «mram_modes» = entryOf Mram opcode .modes; psram = entryOf Psram opcode .kind; «psram_modes» = entryOf Psram opcode .modes }
+    record { mram = meaningOf Mram opcode .kind; «mram_modes» = meaningOf Mram opcode .modes; psram = meaningOf Psram opcode .kind; «psram_modes» = meaningOf Psram opcode .modes }

@@ -3,11 +3,11 @@ ghost use mathlib.Core.Path.{_≡_};
 ghost use Rattle.opcodes.specs.Opcodes.{rowOf, inModes, kindIn, kindOf};
 use kinds::Control;
 use kinds::Kind;
-use kinds::Reading;
+use kinds::ReadForm;
 use kinds::Register;
 use kinds::Source;
 use kinds::Target;
-use kinds::Writing;
+use kinds::WriteForm;
 use parts::Family;
 use units::Wires;
 
@@ -63,7 +63,7 @@ fn row_of(opcode: u8) -> Row
         0x38 => Row {
             mram: Kind::Plain(Control::ToFour),
             mram_modes: Modes::OneTwo,
-            psram: Kind::Write(Target::Memory(Writing::Quad)),
+            psram: Kind::Write(Target::Memory(WriteForm::Quad)),
             psram_modes: Modes::OneFour,
         },
         0xFF => Row {
@@ -163,9 +163,9 @@ fn row_of(opcode: u8) -> Row
             psram_modes: Modes::Never,
         },
         0x03 => Row {
-            mram: Kind::Read(Source::Memory(Reading::Plain)),
+            mram: Kind::Read(Source::Memory(ReadForm::Plain)),
             mram_modes: Modes::One,
-            psram: Kind::Read(Source::Memory(Reading::Plain)),
+            psram: Kind::Read(Source::Memory(ReadForm::Plain)),
             psram_modes: Modes::One,
         },
         0x4B => Row {
@@ -199,9 +199,9 @@ fn row_of(opcode: u8) -> Row
             psram_modes: Modes::Never,
         },
         0x02 => Row {
-            mram: Kind::Write(Target::Memory(Writing::Plain)),
+            mram: Kind::Write(Target::Memory(WriteForm::Plain)),
             mram_modes: Modes::Always,
-            psram: Kind::Write(Target::Memory(Writing::Plain)),
+            psram: Kind::Write(Target::Memory(WriteForm::Plain)),
             psram_modes: Modes::OneFour,
         },
         0x42 => Row {
@@ -213,25 +213,25 @@ fn row_of(opcode: u8) -> Row
         0x0B => Row {
             mram: Kind::Unknown,
             mram_modes: Modes::Never,
-            psram: Kind::Read(Source::Memory(Reading::Fast)),
+            psram: Kind::Read(Source::Memory(ReadForm::Fast)),
             psram_modes: Modes::OneFour,
         },
         0xEB => Row {
             mram: Kind::Unknown,
             mram_modes: Modes::Never,
-            psram: Kind::Read(Source::Memory(Reading::Quad)),
+            psram: Kind::Read(Source::Memory(ReadForm::Quad)),
             psram_modes: Modes::OneFour,
         },
         0x8B => Row {
             mram: Kind::Unknown,
             mram_modes: Modes::Never,
-            psram: Kind::Read(Source::Memory(Reading::Wrapped)),
+            psram: Kind::Read(Source::Memory(ReadForm::Wrapped)),
             psram_modes: Modes::OneFour,
         },
         0x82 => Row {
             mram: Kind::Unknown,
             mram_modes: Modes::Never,
-            psram: Kind::Write(Target::Memory(Writing::Plain)),
+            psram: Kind::Write(Target::Memory(WriteForm::Plain)),
             psram_modes: Modes::OneFour,
         },
         0xB5 => Row {

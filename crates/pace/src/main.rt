@@ -2,9 +2,9 @@
 // `pace read 4 65535 200 10` clocks a read of 65,535 clocks on four wires 200 times on a chip of n = 10, `pace gather 4
 // 65535 200` gathers so many driven samples. One line tells the clocks of all calls that were answered 0, and digests of what
 // the last one left. The second program prints the same.
-use columns::digest_column;
+use bench_columns::digest_column;
 use digits::number_in;
-use orders::Order;
+use host_order::Order;
 use parts::LARGEST_AREA;
 use parts::LARGEST_MEMORY;
 use parts::Part;
@@ -22,6 +22,7 @@ use text::put_all;
 use text::put_decimal;
 use units::Bytes;
 use units::Clocks;
+use units::bytes_to_clocks;
 use units::clocks_to_bytes;
 
 // What is asked: 1 reads, 2 writes, 3 gathers, and 0 is none of them.
@@ -152,27 +153,31 @@ fn order(a: Asked, part: u8) -> Order {
         mode: a.wires,
         address: 0x123,
         cr2: 8,
-        wanted: Bytes(1),
+        wanted: Bytes::one(),
     }
 }
 
+// The bytes of opcode and address.
+const FRONT: usize = 4;
+
 // The bytes of a write that so many clocks hold beside opcode and address; a read has none.
-fn bytes_in(a: Asked) -> usize {
+fn bytes_in(a: Asked) -> Bytes {
     if a.what != 2 {
-        return 0;
+        return Bytes::none();
     }
-    let all = Clocks(a.clocks as usize);
-    let held = clocks_to_bytes(all, mode_wires(a.wires));
-    if held.0 < 4 {
-        return 0;
+    let w = mode_wires(a.wires);
+    let all = Clocks::stated(a.clocks as usize);
+    let front = bytes_to_clocks(Bytes::stated(FRONT), w);
+    if !front.at_most(all) {
+        return Bytes::none();
     }
-    held.0 - 4
+    clocks_to_bytes(all.less(front), w)
 }
 
 // The samples of the command. Behind what the host builds all wires stay low: a read goes on, and a write has its last byte
 // cut.
 fn build(a: Asked, part: u8, written: &mut [u8], samples: &mut [u8]) {
-    let n = bytes_in(a);
+    let n = bytes_in(a).in_bytes();
     fill(written, 0);
     if written.len() < n {
         return;
@@ -264,7 +269,7 @@ fn clock_area(
     output: &mut [u8],
 ) -> u32 {
     let mut area = [0u8; LARGEST_AREA];
-    let edge = Part::of(d.make.part).area().0;
+    let edge = Part::of(d.make.part).area().in_bytes();
     if LARGEST_AREA < edge {
         return 0;
     }
@@ -286,7 +291,7 @@ fn clock_sized(a: Asked, memory: &mut [u8], samples: &mut [u8], output: &mut [u8
     if 21 < n {
         return;
     }
-    let size = memory_size(n).0;
+    let size = memory_size(n).in_bytes();
     if memory.len() < size {
         return;
     }

@@ -18,24 +18,24 @@ use Rattle.commands.specs.declared.plans.Body.the-variants.{Nothing, FixedRead,
 use Rattle.progress.specs.declared.Tally.{Tally}
 use Rattle.parts.specs.declared.Part.{Part}
 use Rattle.parts.specs.Parts.{familyOf}
-use Rattle.record.specs.declared.Answer.{Answer}
-use Rattle.record.specs.declared.Device.{Device}
-use Rattle.record.specs.declared.Setting.{Setting}
-use Rattle.record.specs.declared.Aim.{Aim}
+use Rattle.record.specs.declared.answers.Answer.{Answer}
+use Rattle.record.specs.declared.devices.Device.{Device}
+use Rattle.record.specs.declared.devices.Setting.{Setting}
+use Rattle.record.specs.declared.devices.Aim.{Aim}
 use Rattle.record.specs.Devices.{settingOf, aimOf}
 use Rattle.changes.specs.Latches.{latchMissing}
-use Rattle.values.specs.Values.{reservedOf}
+use Rattle.state_check.specs.Values.{reservedOf}
 use Rattle.paper.specs.InForce.{asleepFor, refusedAt, commandClocks, addressClocks, bodyFor, wiresFor}
 use Rattle.paper.specs.Storing.{allShut}
 use Rattle.paper.specs.Table.{Table, answerBy}
 
--- what was read, as the checks see it
+-- what was read, as the checks see it (D55)
 pub record Facts : Type 0 where
   pub kind : Kind
   pub address : ℕ
   pub tally : Tally
 
--- 4, for want of data: a burst has brought no whole byte, or a register write not all of its own. Reads never want data.
+-- 4, for want of data, asked in bytes (D22): a burst has brought no whole byte, or a register write not all of its own. Reads never want data.
 abbrev pub shortData : Body → Wires → Clocks → Bool
 shortData Nothing w t = false
 shortData (FixedRead b) w t = false

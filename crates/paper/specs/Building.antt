@@ -1,4 +1,4 @@
--- The host half, first: a command becomes samples. Document 01, "The host half", first paragraph.
+-- The host half, first: a command becomes samples. Document 01, "The host half", first paragraph (D30).
 use Prim.Native.Nat.{ℕ}
 use mathlib.Core.Bool.{Bool, true, false, cond, _&&_, _||_}
 use mathlib.Core.List.{List, [], _∷_, _++_}
@@ -22,11 +22,11 @@ use Rattle.commands.specs.declared.plans.Address.the-variants.{Absent, InMemory
 use Rattle.commands.specs.declared.plans.Body.{Body}
 use Rattle.commands.specs.declared.plans.Body.the-variants.{Nothing, FixedRead, AnyRead, FixedWrite, AnyWrite}
 use Rattle.commands.specs.Plans.{laterWires, addressOf, waitsByRegister, waitOf, bodyOf}
-use Rattle.record.specs.declared.Answer.{Answer}
-use Rattle.record.specs.declared.Answer.the-variants.{Done, Size, Short, Unknown, Address as Refused, Reserved, Long}
+use Rattle.record.specs.declared.answers.Answer.{Answer}
+use Rattle.record.specs.declared.answers.Answer.the-variants.{Done, Size, Short, Unknown, Address as Refused, Reserved, Long}
 use Rattle.record.specs.Devices.{modeWires}
 use Rattle.record.specs.Answers.{isDone}
-use Rattle.values.specs.States.{modeAllowed}
+use Rattle.state_check.specs.States.{modeAllowed}
 use Rattle.paper.specs.InForce.{addressLength}
 use Rattle.paper.specs.Reading.{many}
 use Rattle.paper.specs.Transaction.{over}
@@ -52,7 +52,7 @@ sentOn o = modeWires (o .mode)
 unfoldable pub kindAsked : Order → Kind
 kindAsked o = cond (knownPart (o .part) && modeAllowed (familyOf (partOf (o .part))) (o .mode)) (kindOf (familyOf (partOf (o .part))) (sentOn o) (o .opcode)) Kinds.Unknown
 
--- The data that the host may ask for. It does not look at 65's map: that takes up to eight bytes whatever the address.
+-- The data that the host may ask for. It does not look at 65's map: that takes up to eight bytes whatever the address (D30).
 abbrev pub askedOf : Source → Body → Body
 askedOf (From.Register r) b = b
 askedOf From.Map b = FixedRead (bytes 8)
@@ -79,7 +79,7 @@ addressed InMap = true
 addressed LowNibbleZero = true
 addressed Ignored = true
 
--- 7: an address that 24 bits do not hold, where the command has one
+-- 7: an address that 24 bits do not hold, where the command has one; the PSRAM's 9F has one too (D16)
 unfoldable pub beyond : Kind → ℕ → Bool
 beyond k address = addressed (addressOf k) && ltb 0xFFFFFF address
 
@@ -87,7 +87,7 @@ beyond k address = addressed (addressOf k) && ltb 0xFFFFFF address
 unfoldable pub overlong : Kind → ℕ → Bool
 overlong k cr2 = waitsByRegister k && ltb 0x0F cr2
 
--- 4: fewer bytes than the command can do with. A register write wants all of its own, everything else one.
+-- 4: fewer bytes than the command can do with (D22). A register write wants all of its own, everything else one.
 abbrev pub tooFew : Body → Bytes → Bytes → Bool
 tooFew Nothing wanted written = false
 tooFew (FixedRead b) wanted written = fewerBytes wanted (bytes 1)
@@ -129,7 +129,7 @@ builtOf o k =
     ++ (silent (waitOf k w (o .cr2))
     ++ dataSent (bodyAsked o k) v o))
 
--- THE ROWS, a named test for each, and their order of checking
+-- THE ROWS, a named test for each, and their order of checking (D54)
 pub record Refusals : Type 0 where
   pub unknown : Bool
   pub beyond : Bool
@@ -163,13 +163,13 @@ abbrev pub buildAnswer : Order → Kind → List ℕ → Answer
 buildAnswer o k out = firstOf Done (checked (refusalsOf o k out))
 
 -- What a call of the host half tells, and what it leaves in the buffer. The number is of clocks where samples are built, and of bytes where bytes are
--- gathered: the unit is part of the type.
+-- gathered: the unit is part of the type (D31).
 pub record Told (U : Type 0) : Type 0 where
   pub answer : Answer
   pub number : U
   pub buffer : List ℕ
 
--- what was made, over the front of the buffer, and how much it is; a refusal writes nothing and tells 0
+-- what was made, over the front of the buffer, and how much it is; a refusal writes nothing and tells 0 (D30)
 abbrev pub told : {U : Type 0} → (ℕ → U) → Answer → List ℕ → List ℕ → Told U
 told unit v xs out =
     cond (isDone v) (record { answer = v; number = unit (length xs); buffer = over xs out }) (record { answer = v; number = unit 0; buffer = out })

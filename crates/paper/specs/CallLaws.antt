@@ -1,4 +1,4 @@
--- A call that is refused, and one that passes its checks: once for any list of checks, and then in the words of each call.
+-- A call that is refused, and one that passes its checks: once for any list of checks, and then in the words of each call (D54).
 -- Assumes nothing.
 use mathlib.Core.Path.{_≡_, refl, sym, ap, _∙_}
 use Prim.Native.Nat.{ℕ}
@@ -7,10 +7,10 @@ use mathlib.Core.List.{List, [], _∷_}
 use Rattle.basis.specs.Truth.{untrue, both-true, not-untrue}
 use Rattle.basis.specs.Decisions.{firstOf, leadingTo, NoneHolds, Among, no-row, by-rows, none-holds, first-map, ways-to, same-tests, tests-same, leading-back, among-all}
 use Rattle.counts.specs.Counts.{noCounts}
-use Rattle.record.specs.declared.Answer.{Answer}
-use Rattle.record.specs.declared.Device.{Device}
+use Rattle.record.specs.declared.answers.Answer.{Answer}
+use Rattle.record.specs.declared.devices.Device.{Device}
 use Rattle.record.specs.Answers.{refuses}
-use Rattle.values.specs.States.{validOf}
+use Rattle.state_check.specs.States.{validOf}
 use Rattle.paper.specs.Storing.{Lent}
 use Rattle.paper.specs.Table.{by-row}
 use Rattle.paper.specs.Answers.{Facts, tableFor, judge}

@@ -1,4 +1,4 @@
--- The host half, second: bytes from driven samples. Document 01, "The host half", second paragraph.
+-- The host half, second: bytes from driven samples. Document 01, "The host half", second paragraph (D30).
 use Prim.Native.Nat.{ℕ}
 use mathlib.Core.Bool.{Bool, false, cond, not, _&&_, _||_}
 use mathlib.Core.List.{List, [], _∷_}
@@ -8,13 +8,13 @@ use Rattle.units.specs.declared.Wires.{Wires}
 use Rattle.units.specs.Units.{bytes, fewerBytes}
 use Rattle.basis.specs.Decisions.{firstOf}
 use Rattle.wires.specs.Levels.{seenOf, drivenOf}
-use Rattle.record.specs.declared.Answer.{Answer}
-use Rattle.record.specs.declared.Answer.the-variants.{Done, Size, Sample, Unknown}
+use Rattle.record.specs.declared.answers.Answer.{Answer}
+use Rattle.record.specs.declared.answers.Answer.the-variants.{Done, Size, Sample, Unknown}
 use Rattle.record.specs.Devices.{modeWires}
 use Rattle.paper.specs.Reading.{dataBytes}
 use Rattle.paper.specs.Building.{manyBytes, Told, told}
 
--- one, two or four wires
+-- one, two or four wires (D38)
 abbrev pub isWires : ℕ → Bool
 isWires w = eqb w 1 || (eqb w 2 || eqb w 4)
 
@@ -32,7 +32,7 @@ strange w (x ∷ xs) = (not (eqb x 0) && not (drivenOf w x)) || strange w xs
 unfoldable pub collected : Wires → List ℕ → List ℕ
 collected w xs = dataBytes w (seenIn w xs)
 
--- THE ROWS, a named test for each, and their order of checking
+-- THE ROWS, a named test for each, and their order of checking (D54)
 pub record Unfit : Type 0 where
   pub noWires : Bool
   pub strange : Bool

@@ -17,7 +17,7 @@ use Rattle.commands.specs.declared.registers.Mapped.the-variants.{At, Nowhere}
 use Rattle.commands.specs.Registers.{mappedOf}
 use Rattle.commands.specs.declared.plans.Body.{Body}
 use Rattle.commands.specs.declared.plans.Body.the-variants.{Nothing, FixedRead, AnyRead, FixedWrite, AnyWrite}
-use Rattle.record.specs.declared.Device.{Device}
+use Rattle.record.specs.declared.devices.Device.{Device}
 use Rattle.record.specs.Devices.{settingOf}
 use Rattle.record.specs.Shows.{shownByte}
 use Rattle.places.specs.Places.{readPlace, areaPlace}

@@ -16,7 +16,7 @@ use Rattle.commands.specs.declared.plans.Address.the-variants.{Absent, InMemory
 use Rattle.commands.specs.declared.plans.Body.{Body}
 use Rattle.commands.specs.declared.plans.Body.the-variants.{Nothing}
 use Rattle.commands.specs.Plans.{laterWires, addressOf, waitOf, bodyOf}
-use Rattle.record.specs.declared.Setting.{Setting}
+use Rattle.record.specs.declared.devices.Setting.{Setting}
 use Rattle.places.specs.Addresses.{allowedOf}
 
 -- AB
@@ -39,7 +39,7 @@ wakes (Plain c) = wake c
 wakes (Read s) = false
 wakes (Write t) = false
 
--- 6: asleep, and the command does not wake
+-- 6: asleep, and the command does not wake (D17)
 unfoldable pub asleepFor : Setting → Kind → Bool
 asleepFor s k = s .asleep && not (wakes k)
 

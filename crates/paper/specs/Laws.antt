@@ -15,7 +15,7 @@ use Rattle.units.specs.Units.{clocks, bytes, perByte}
 use Rattle.wires.specs.Bits.{spelled}
 use Rattle.wires.specs.Laws.{spread-length}
 use Rattle.paper.specs.Reading.{bytesIn, dataBytes}
-use Rattle.record.specs.declared.Answer.the-variants.{Done}
+use Rattle.record.specs.declared.answers.Answer.the-variants.{Done}
 use Rattle.record.specs.Answers.{isDone}
 use Rattle.paper.specs.Storing.{takeAll}
 use Rattle.paper.specs.Driving.{along}

@@ -5,6 +5,7 @@ pub mod Driving
 pub mod Table
 pub mod Answers
 pub mod Transaction
+pub mod ReadingLaws
 pub mod CallLaws
 pub mod Building
 pub mod Collecting

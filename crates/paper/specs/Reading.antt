@@ -15,7 +15,7 @@ use Rattle.counts.specs.declared.Counts.{Counts}
 use Rattle.counts.specs.Counts.{counted}
 use Rattle.commands.specs.declared.plans.Body.{Body}
 use Rattle.commands.specs.declared.plans.Body.the-variants.{Nothing, FixedRead, AnyRead, FixedWrite, AnyWrite}
-use Rattle.record.specs.declared.Setting.{Setting}
+use Rattle.record.specs.declared.devices.Setting.{Setting}
 use Rattle.paper.specs.InForce.{commandClocks, wiresFor, addressClocks, waitClocks, bodyFor}
 
 -- the first clocks of the samples, and those after them
@@ -57,7 +57,7 @@ restPart (FixedWrite b) w xs = after (clocksOf w b) xs
 restPart AnyWrite w xs = []
 
 -- THE READING: the kind, the address, and the samples of each phase
-pub record Parts : Type 0 where
+pub record Reading : Type 0 where
   pub kind : Kind
   pub address : ℕ
   pub commandPart : List ℕ
@@ -66,8 +66,8 @@ pub record Parts : Type 0 where
   pub dataPart : List ℕ
   pub restPart : List ℕ
 
-unfoldable pub partsOf : Setting → List ℕ → Parts
-partsOf s xs =
+unfoldable pub readingOf : Setting → List ℕ → Reading
+readingOf s xs =
     let k = kindRead s (first (commandClocks s) xs) in
     let xs₁ = after (commandClocks s) xs in
     let a = addressRead s k (first (addressClocks s k) xs₁) in
@@ -84,7 +84,7 @@ partsOf s xs =
     }
 
 -- the five counts: the clocks of each phase
-abbrev pub countsIn : Parts → Counts
+abbrev pub countsIn : Reading → Counts
 countsIn p = counted (many (p .commandPart)) (many (p .addressPart)) (many (p .waitPart)) (many (p .dataPart)) (many (p .restPart))
 
 -- the whole bytes of data samples, the first first; an unfinished one is left out

@@ -13,7 +13,7 @@ use Rattle.kinds.specs.declared.Kind.{Kind}
 use Rattle.kinds.specs.declared.Kind.the-variants.{Unknown, Plain, Read, Write}
 use Rattle.commands.specs.declared.plans.Body.{Body}
 use Rattle.commands.specs.declared.plans.Body.the-variants.{Nothing, FixedRead, AnyRead, FixedWrite, AnyWrite}
-use Rattle.record.specs.declared.Aim.{Aim}
+use Rattle.record.specs.declared.devices.Aim.{Aim}
 use Rattle.places.specs.Places.{writePlace, areaPlace}
 use Rattle.places.specs.Protection.{protectedOf, areaProtectedOf}
 
@@ -46,7 +46,7 @@ putAt a i b l =
     (record { memory = l .memory; area = set (l .area) (areaPlace (s .part) (a .address) i) b })
     (record { memory = set (l .memory) (writePlace s (a .address) i) b; area = l .area })
 
--- HOW MANY of the first m bytes of a write lie at protected places. It follows from the places alone, whatever the bytes are.
+-- HOW MANY of the first m bytes of a write lie at protected places. It follows from the places alone, whatever the bytes are (D55).
 abbrev pub shutAmong : Aim → Bytes → Bytes
 shutAmong a m = bytes (howMany (λ i. protectedAt a (bytes i)) (m .0))
 

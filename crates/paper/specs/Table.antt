@@ -1,11 +1,11 @@
--- The answer table: document 01's "Answer numbers" from row 4 on, a named test for each row. The first row that holds gives the answer, and where none does it is 0.
+-- The answer table: document 01's "Answer numbers" from row 4 on, a named test for each row. The first row that holds gives the answer, and where none does it is 0 (D54).
 -- Assumes nothing.
 use mathlib.Core.Path.{_≡_, refl}
 use mathlib.Core.Bool.{Bool, true, false}
 use mathlib.Core.List.{List, [], _∷_}
 use Rattle.basis.specs.Decisions.{firstOf, NoneHolds, no-row, by-rows, none-holds}
-use Rattle.record.specs.declared.Answer.{Answer}
-use Rattle.record.specs.declared.Answer.the-variants.{Done, Short, Unknown, Asleep, Address, Latch, Protected, Reserved, Long, Unarmed}
+use Rattle.record.specs.declared.answers.Answer.{Answer}
+use Rattle.record.specs.declared.answers.Answer.the-variants.{Done, Short, Unknown, Asleep, Address, Latch, Protected, Reserved, Long, Unarmed}
 use Rattle.record.specs.Answers.{isDone}
 
 pub record Table : Type 0 where

@@ -1,4 +1,4 @@
--- A transaction, whole: what comes in, what goes out. Document 01, "Answer numbers" and "Reset and power".
+-- A transaction, whole: what comes in, what goes out. Document 01, "Answer numbers" and "Reset and power" (D23).
 use Prim.Native.Nat.{ℕ}
 use mathlib.Core.Bool.{Bool, true, cond, not, _&&_}
 use mathlib.Core.List.{List, [], _∷_, _++_}
@@ -13,18 +13,18 @@ use Rattle.commands.specs.declared.plans.Body.{Body}
 use Rattle.progress.specs.Progress.{nothingYet}
 use Rattle.counts.specs.declared.Counts.{Counts}
 use Rattle.counts.specs.Counts.{noCounts}
-use Rattle.record.specs.declared.Answer.{Answer}
-use Rattle.record.specs.declared.Answer.the-variants.{Done, Size, Sample, State}
-use Rattle.record.specs.declared.Device.{Device}
-use Rattle.record.specs.declared.Setting.{Setting}
+use Rattle.record.specs.declared.answers.Answer.{Answer}
+use Rattle.record.specs.declared.answers.Answer.the-variants.{Done, Size, Sample, State}
+use Rattle.record.specs.declared.devices.Device.{Device}
+use Rattle.record.specs.declared.devices.Setting.{Setting}
 use Rattle.record.specs.Devices.{settingOf, aimOf}
 use Rattle.record.specs.Answers.{isDone}
 use Rattle.record.specs.Resets.{poweredOf}
 use Rattle.changes.specs.Changes.{settledOf}
-use Rattle.values.specs.States.{validOf}
+use Rattle.state_check.specs.States.{validOf}
 use Rattle.places.specs.Addresses.{memorySize}
 use Rattle.paper.specs.InForce.{wiresFor, bodyFor}
-use Rattle.paper.specs.Reading.{Parts, partsOf, many, countsIn, dataBytes}
+use Rattle.paper.specs.Reading.{Reading, readingOf, many, countsIn, dataBytes}
 use Rattle.paper.specs.Storing.{Lent, storeByte, valueByte, takeAll}
 use Rattle.paper.specs.Driving.{drivenAt, along}
 use Rattle.paper.specs.Answers.{Facts, judge}
@@ -56,29 +56,29 @@ sampled (x ∷ xs) = ltb x 16 && sampled xs
 
 -- ---- what was read, and what it comes to
 -- the whole data bytes
-unfoldable pub sentBytes : Setting → Parts → List ℕ
+unfoldable pub sentBytes : Setting → Reading → List ℕ
 sentBytes s p = dataBytes (wiresFor s (p .kind)) (p .dataPart)
 
-abbrev pub bodyIn : Setting → Parts → Body
+abbrev pub bodyIn : Setting → Reading → Body
 bodyIn s p = bodyFor s (p .kind) (p .address)
 
-unfoldable pub factsOf : Setting → Parts → Facts
+unfoldable pub factsOf : Setting → Reading → Facts
 factsOf s p =
     record { kind = p .kind; address = p .address; tally = record { counts = countsIn p; value = takeAll (valueByte (bodyIn s p)) 0 (sentBytes s p) (nothingYet .value) } }
 
 -- memory and area with the whole data bytes of a burst in them
-unfoldable pub storedBy : Setting → Parts → Lent → Lent
+unfoldable pub storedBy : Setting → Reading → Lent → Lent
 storedBy s p l = takeAll (storeByte (bodyIn s p) (aimOf s (p .kind) (p .address))) 0 (sentBytes s p) l
 
 abbrev pub undriven : List ℕ → List ℕ
 undriven xs = replicate (length xs) 0
 
 -- the output of all clocks, given that of the data clocks: before and after them nothing is driven
-abbrev pub around : Parts → List ℕ → List ℕ
+abbrev pub around : Reading → List ℕ → List ℕ
 around p o = undriven (p .commandPart) ++ (undriven (p .addressPart) ++ (undriven (p .waitPart) ++ (o ++ undriven (p .restPart))))
 
 -- what the clocks drive: the data clocks of a read that is done, and nothing else
-unfoldable pub outputOf : Device → Lent → Parts → Answer → List ℕ
+unfoldable pub outputOf : Device → Lent → Reading → Answer → List ℕ
 outputOf d l p v =
     around p
     (cond (isDone v) (along (drivenAt (bodyIn (settingOf d) p) d (p .kind) (p .address) l) 0 (p .dataPart)) (undriven (p .dataPart)))
@@ -91,7 +91,7 @@ over xs out = xs ++ drop (length xs) out
 unfoldable pub clockedOf : Device → Lent → List ℕ → List ℕ → World
 clockedOf d l xs out =
     let s = settingOf d in
-    let p = partsOf s xs in
+    let p = readingOf s xs in
     let f = factsOf s p in
     let v = judge d f in
     record {
@@ -106,7 +106,7 @@ clockedOf d l xs out =
 abbrev pub refusal : Device → Lent → List ℕ → Answer → World
 refusal d l out v = record { answer = v; counts = noCounts; device = d; lent = l; output = out }
 
--- THE CHECKS before a call, in their order: the first that fails refuses it, and where all are passed it is made
+-- THE CHECKS before a call, in their order: the first that fails refuses it, and where all are passed it is made (D54)
 abbrev pub guarded : List (Bool × Answer) → (Answer → World) → World → World
 guarded cs refuse w = firstOf w (leadingTo refuse cs)
 

@@ -16,7 +16,7 @@ groups = 16 ∷ 32 ∷ 64 ∷ 512 ∷ []
 abbrev pub groupLength : ℕ → Bytes
 groupLength mr0 = bytes (getD groups (mr0 / 32 % 4) 0)
 
--- Of 64 equal parts of memory: nothing for code 0, then 1/64 for 1, doubled with each code, to all of memory for 7.
+-- Of 64 equal parts of memory: nothing for code 0, then 1/64 for 1, doubled with each code, to all of memory for 7 (D14).
 abbrev pub shareAt : ℕ → ℕ
 shareAt zero = 0
 shareAt (suc k) = 2 ^ k

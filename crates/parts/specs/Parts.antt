@@ -12,7 +12,7 @@ use Rattle.parts.specs.declared.Family.the-variants.{Mram, Psram}
 use Rattle.parts.specs.declared.Part.{Part}
 use Rattle.parts.specs.declared.Part.the-variants.{M, P}
 
--- Rules go by the family, limits by the part. What follows below and is not a limit (commands, latch, protection, groups, reset, power) asks the family.
+-- Rules go by the family, limits by the part. What follows below and is not a limit (commands, latch, protection, groups, reset, power) asks the family (D57).
 abbrev pub familyOf : Part → Family
 familyOf M = Mram
 familyOf P = Psram
@@ -25,7 +25,7 @@ partNumber P = 2
 abbrev pub parts : List (ℕ × Part)
 parts = (partNumber M, M) ∷ (partNumber P, P) ∷ []
 
--- the part of a number; row 1 refuses a number that stands for none before it comes to more
+-- the part of a number; row 1 refuses a number that stands for none before it comes to more (D10)
 abbrev pub partOf : ℕ → Part
 partOf k = look M parts k
 

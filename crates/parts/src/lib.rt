@@ -6,7 +6,7 @@ ghost use Rattle.parts.specs.Lengths.{wrapLength, groupLength, shareOf};
 use units::Bytes;
 
 // Part M, the serial MRAM. Its memories of 2^17, 2^19, 2^20 and 2^21 bytes are sold; the smaller ones are
-// the bench's.
+// the bench's. Its limits and fresh registers are constants of its type (D36).
 pub struct PartM;
 
 impl PartM {
@@ -51,13 +51,13 @@ pub const LARGEST_MEMORY: usize = 2097152;
 
 pub const LARGEST_AREA: usize = 256;
 
-// Rules go by the family: commands, latch, protection, groups, reset and power.
+// Rules go by the family: commands, latch, protection, groups, reset and power (D57).
 pub enum Family {
     Mram,
     Psram,
 }
 
-// Limits go by the part: n, the area and its sections, the codes of groups, the register map, fresh registers.
+// Limits go by the part: n, the area and its sections, the codes of groups, the register map, fresh registers (D57).
 pub enum Part {
     M,
     P,
@@ -96,7 +96,7 @@ impl Part {
     }
 
     // The smallest and the largest n of a memory of 2^n bytes.
-    pub fn least(self) -> u8
+    fn least(self) -> u8
         ensures { λ r. ⌜ r ≡ leastOf self ⌝ }
     {
         match self {
@@ -105,7 +105,7 @@ impl Part {
         }
     }
 
-    pub fn most(self) -> u8
+    fn most(self) -> u8
         ensures { λ r. ⌜ r ≡ mostOf self ⌝ }
     {
         match self {
@@ -129,8 +129,8 @@ impl Part {
         ensures { λ r. ⌜ r ≡ areaOf self ⌝ }
     {
         match self {
-            Part::M => Bytes(PartM::AREA),
-            Part::P => Bytes(PartP::AREA),
+            Part::M => Bytes::stated(PartM::AREA),
+            Part::P => Bytes::stated(PartP::AREA),
         }
     }
 
@@ -139,8 +139,8 @@ impl Part {
         ensures { λ r. ⌜ r ≡ sectionOf self ⌝ }
     {
         match self {
-            Part::M => Bytes(PartM::SECTION),
-            Part::P => Bytes(PartP::SECTION),
+            Part::M => Bytes::stated(PartM::SECTION),
+            Part::P => Bytes::stated(PartP::SECTION),
         }
     }
 }
@@ -159,14 +159,14 @@ const SHARES: [usize; 8] = [0, 1, 2, 4, 8, 16, 32, 64];
 pub fn wrap_length(cr3: u8) -> Bytes
     ensures { λ r. ⌜ r ≡ wrapLength cr3 ⌝ }
 {
-    Bytes(WRAPS[(cr3 % 8) as usize])
+    Bytes::stated(WRAPS[(cr3 % 8) as usize])
 }
 
 // The group inside which the PSRAM wraps, by the mode register.
 pub fn group_length(mr0: u8) -> Bytes
     ensures { λ r. ⌜ r ≡ groupLength mr0 ⌝ }
 {
-    Bytes(GROUPS[(mr0 / 32 % 4) as usize])
+    Bytes::stated(GROUPS[(mr0 / 32 % 4) as usize])
 }
 
 // How many of 64 equal parts of memory the status register protects.

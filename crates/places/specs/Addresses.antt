@@ -13,7 +13,7 @@ use Rattle.commands.specs.declared.registers.Mapped.the-variants.{At, Nowhere}
 use Rattle.commands.specs.declared.plans.Address.{Address}
 use Rattle.commands.specs.declared.plans.Address.the-variants.{Absent, InMemory, InArea, InMap, LowNibbleZero, Ignored}
 use Rattle.commands.specs.Registers.{mappedOf}
-use Rattle.record.specs.declared.Setting.{Setting}
+use Rattle.record.specs.declared.devices.Setting.{Setting}
 
 -- a memory has 2^n bytes
 abbrev pub memorySize : ℕ → Bytes
@@ -23,10 +23,12 @@ abbrev pub isMapped : Mapped → Bool
 isMapped (At r) = true
 isMapped Nowhere = false
 
+-- the PSRAM has every address, since it drops the bits that its memory has not (D15)
 abbrev pub memoryAllowed : Family → ℕ → ℕ → Bool
 memoryAllowed Mram n address = ltb address (memorySize n .0)
 memoryAllowed Psram n address = true
 
+-- an address that is ignored may be any (D16)
 abbrev pub allowedOf : Setting → Address → ℕ → Bool
 allowedOf s Absent address = true
 allowedOf s InMemory address = memoryAllowed (familyOf (s .part)) (s .n) address

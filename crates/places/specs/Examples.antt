@@ -9,7 +9,7 @@ use Rattle.units.specs.declared.Wires.the-variants.{One}
 use Rattle.parts.specs.declared.Part.{Part}
 use Rattle.parts.specs.declared.Part.the-variants.{M, P}
 use Rattle.commands.specs.declared.plans.Address.the-variants.{InMemory, InArea, LowNibbleZero}
-use Rattle.record.specs.declared.Setting.{Setting}
+use Rattle.record.specs.declared.devices.Setting.{Setting}
 use Rattle.places.specs.Addresses.{allowedOf}
 use Rattle.places.specs.Places.{readPlace, writePlace, areaPlace, readSpan, writeSpan, placeIn}
 use Rattle.places.specs.Protection.{protectedOf, areaProtectedOf, shutMemory, sectionShut}

@@ -15,7 +15,7 @@ use Rattle.parts.specs.declared.Part.{Part}
 use Rattle.parts.specs.declared.Part.the-variants.{M, P}
 use Rattle.parts.specs.Parts.{familyOf, areaOf, sectionOf}
 use Rattle.parts.specs.Lengths.{groups, wrapLength, shareAt, shareOf}
-use Rattle.record.specs.declared.Setting.{Setting}
+use Rattle.record.specs.declared.devices.Setting.{Setting}
 use Rattle.places.specs.Addresses.{memorySize}
 use Rattle.places.specs.Places.{groupInForce, wrapInForce, readSpanFor, writeSpanFor, readSpan, writeSpan}
 use Rattle.places.specs.Protection.{shutBytes, sectionShut}

@@ -9,10 +9,10 @@ use Rattle.parts.specs.declared.Family.{Family}
 use Rattle.parts.specs.declared.Family.the-variants.{Mram, Psram}
 use Rattle.parts.specs.Parts.{familyOf, sectionOf}
 use Rattle.parts.specs.Lengths.{shareOf}
-use Rattle.record.specs.declared.Setting.{Setting}
+use Rattle.record.specs.declared.devices.Setting.{Setting}
 use Rattle.places.specs.Addresses.{memorySize}
 
--- the protected share of a memory, in bytes
+-- the protected share of a memory, in bytes; it grows with the memory (D14)
 abbrev pub shutBytes : ℕ → ℕ → Bytes
 shutBytes n status = bytes (memorySize n .0 / 64 * shareOf status)
 

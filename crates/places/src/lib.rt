@@ -18,12 +18,21 @@ use parts::Part;
 use record::Setting;
 use units::Bytes;
 
+// The group that the PSRAM's toggle picks, in bytes.
+const TOGGLED: usize = 32;
+
+// The equal shares of a memory, of which the status register protects some.
+const SHARES: usize = 64;
+
+// The sections of an area, of which each has a bit.
+const SECTIONS: usize = 8;
+
 // The bytes of a memory.
 pub fn memory_size(n: u8) -> Bytes
     requires { ⌜ n ≤ 24 ⌝ }
     ensures { λ r. ⌜ r ≡ memorySize n ⌝ }
 {
-    Bytes(1usize << n)
+    Bytes::stated(1usize << n)
 }
 
 // Whether 65h found a register.
@@ -42,7 +51,7 @@ fn memory_allowed(family: Family, n: u8, address: u32) -> bool
     ensures { λ r. ⌜ r ≡ memoryAllowed family n address ⌝ }
 {
     match family {
-        Family::Mram => (address as usize) < memory_size(n).0,
+        Family::Mram => (address as usize) < memory_size(n).in_bytes(),
         Family::Psram => true,
     }
 }
@@ -56,7 +65,7 @@ pub fn allowed(s: Setting, a: Address, address: u32) -> bool
     match a {
         Address::Absent => true,
         Address::InMemory => memory_allowed(part.family(), s.n, address),
-        Address::InArea => (address as usize) < part.area().0,
+        Address::InArea => (address as usize) < part.area().in_bytes(),
         Address::InMap => is_mapped(register_at(part, address)),
         Address::LowNibbleZero => address % 16 == 0,
         Address::Ignored => true,
@@ -68,7 +77,7 @@ fn group_in_force(mr0: u8, toggle: bool) -> Bytes
     ensures { λ r. ⌜ r ≡ groupInForce mr0 toggle ⌝ }
 {
     if toggle {
-        return Bytes(32);
+        return Bytes::stated(TOGGLED);
     }
     parts::group_length(mr0)
 }
@@ -113,9 +122,9 @@ fn place_in(size: Bytes, span: Bytes, address: u32, i: Bytes) -> usize
     requires { ⌜ Placeable size span i ⌝ }
     ensures { λ r. ⌜ r ≡ placeIn size span address i ⌝ }
 {
-    let store = size.0;
-    let group = span.0;
-    let past = i.0;
+    let store = size.in_bytes();
+    let group = span.in_bytes();
+    let past = i.in_bytes();
     let a = (address as usize) % store;
     a / group * group + (a + past) % group
 }
@@ -155,9 +164,8 @@ fn shut_memory(n: u8, status: u8, place: usize) -> bool
     requires { ⌜ n ≤ 24 ⌝ }
     ensures { λ r. ⌜ r ≡ shutMemory n status place ⌝ }
 {
-    let store = memory_size(n);
-    let size = store.0;
-    let shut = size / 64 * parts::share(status);
+    let size = memory_size(n).in_bytes();
+    let shut = size / SHARES * parts::share(status);
     if status / 32 % 2 == 1 {
         return place < shut;
     }
@@ -168,7 +176,7 @@ fn shut_memory(n: u8, status: u8, place: usize) -> bool
 fn section_shut(protection: u8, section: usize) -> bool
     ensures { λ r. ⌜ r ≡ sectionShut protection section ⌝ }
 {
-    if section < 8 {
+    if section < SECTIONS {
         return (protection >> section) % 2 == 1;
     }
     false
@@ -192,7 +200,7 @@ pub fn area_protected(s: Setting, place: usize) -> bool
 {
     let part = s.part;
     match part.family() {
-        Family::Mram => section_shut(s.registers.protection, place / part.section().0),
+        Family::Mram => section_shut(s.registers.protection, place / part.section().in_bytes()),
         Family::Psram => false,
     }
 }

@@ -12,7 +12,7 @@ pub enum Phase {
     Rest,
 }
 
-// What the clocks so far come to: their counts, and the eight places of a register write.
+// What the clocks so far come to: their counts, and the eight places of a register write (D59).
 pub struct Tally {
     pub counts: Counts,
     pub value: [u8; 8],

@@ -4,10 +4,10 @@ use mathlib.Core.Bool.{Bool, true, false}
 use mathlib.Core.List.{List, [], _∷_, map}
 use lib.Dec.{eqb}
 use Rattle.basis.specs.Rows.{look}
-use Rattle.record.specs.declared.Answer.{Answer}
-use Rattle.record.specs.declared.Class.{Class}
-use Rattle.record.specs.declared.Class.the-variants as Of
-use Rattle.record.specs.declared.Answer.the-variants.{Done, Size, Sample, State, Short, Unknown, Asleep, Address, Latch, Protected, Reserved, Long, Unarmed}
+use Rattle.record.specs.declared.answers.Answer.{Answer}
+use Rattle.record.specs.declared.answers.Class.{Class}
+use Rattle.record.specs.declared.answers.Class.the-variants as Of
+use Rattle.record.specs.declared.answers.Answer.the-variants.{Done, Size, Sample, State, Short, Unknown, Asleep, Address, Latch, Protected, Reserved, Long, Unarmed}
 
 abbrev pub answerNumber : Answer → ℕ
 answerNumber Done = 0
@@ -24,7 +24,7 @@ answerNumber Reserved = 10
 answerNumber Long = 11
 answerNumber Unarmed = 12
 
--- What became of a call: done, 0; refused, and nothing was clocked; or declined by the device after the clocks. Document 01, the last column of the table
+-- What became of a call: done, 0; refused, and nothing was clocked; or declined by the device after the clocks. Document 01, the last column of the table (D53)
 abbrev pub classOf : Answer → Class
 classOf Done = Of.Done
 classOf Size = Of.Refused

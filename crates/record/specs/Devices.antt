@@ -7,18 +7,18 @@ use Rattle.units.specs.declared.Wires.the-variants.{One, Two, Four}
 use Rattle.parts.specs.Parts.{partOf}
 use Rattle.counts.specs.Counts.{noCounts}
 use Rattle.kinds.specs.declared.Kind.{Kind}
-use Rattle.record.specs.declared.Answer.{Answer}
-use Rattle.record.specs.declared.Device.{Device}
-use Rattle.record.specs.declared.Setting.{Setting}
-use Rattle.record.specs.declared.Aim.{Aim}
-use Rattle.record.specs.declared.Outcome.{Outcome}
+use Rattle.record.specs.declared.answers.Answer.{Answer}
+use Rattle.record.specs.declared.devices.Device.{Device}
+use Rattle.record.specs.declared.devices.Setting.{Setting}
+use Rattle.record.specs.declared.devices.Aim.{Aim}
+use Rattle.record.specs.declared.devices.Outcome.{Outcome}
 
--- the wires of a bus mode, 1, 2 or 4; the state check refuses any other number before it comes to more
+-- the wires of a bus mode, 1, 2 or 4; the state check refuses any other number before it comes to more (D10)
 abbrev pub modeWires : ℕ → Wires
 modeWires mode = cond (eqb mode 2) Two (cond (eqb mode 4) Four One)
 
 -- All that the rules of clocks, addresses and places ask of a record. Latch and arming have no part in it, so whatever is said of a setting
--- holds whatever they are.
+-- holds whatever they are (D21).
 abbrev pub settingOf : Device → Setting
 settingOf d =
     record {
@@ -30,7 +30,7 @@ settingOf d =
       registers = d .registers;
     }
 
--- what a command is aimed at
+-- what a command is aimed at (D59)
 abbrev pub aimOf : Setting → Kind → ℕ → Aim
 aimOf s k a = record { setting = s; kind = k; address = a }
 

@@ -1,10 +1,10 @@
 -- A record with one field changed, and all else as it is.
 use Prim.Native.Nat.{ℕ}
 use mathlib.Core.Bool.{Bool}
-use Rattle.record.specs.declared.Registers.{Registers}
-use Rattle.record.specs.declared.Volatile.{Volatile}
-use Rattle.record.specs.declared.Identities.{Identities}
-use Rattle.record.specs.declared.Device.{Device}
+use Rattle.record.specs.declared.devices.Registers.{Registers}
+use Rattle.record.specs.declared.devices.Volatile.{Volatile}
+use Rattle.record.specs.declared.devices.Identities.{Identities}
+use Rattle.record.specs.declared.devices.Device.{Device}
 
 -- a record with other registers, other volatile state or another identity, and all else as it is
 abbrev pub withRegisters : Registers → Device → Device

@@ -9,11 +9,11 @@ use Rattle.parts.specs.declared.Family.the-variants.{Mram, Psram}
 use Rattle.parts.specs.declared.Part.{Part}
 use Rattle.parts.specs.declared.Part.the-variants.{M, P}
 use Rattle.parts.specs.Parts.{partNumber, partOf, familyOf}
-use Rattle.record.specs.declared.Registers.{Registers}
-use Rattle.record.specs.declared.Volatile.{Volatile}
-use Rattle.record.specs.declared.Identities.{Identities}
-use Rattle.record.specs.declared.Make.{Make}
-use Rattle.record.specs.declared.Device.{Device}
+use Rattle.record.specs.declared.devices.Registers.{Registers}
+use Rattle.record.specs.declared.devices.Volatile.{Volatile}
+use Rattle.record.specs.declared.devices.Identities.{Identities}
+use Rattle.record.specs.declared.devices.Make.{Make}
+use Rattle.record.specs.declared.devices.Device.{Device}
 
 -- mode 1, latch down, disarmed, awake, toggle off
 abbrev pub freshVolatile : Volatile
@@ -23,17 +23,18 @@ freshVolatile = record { mode = 1; latch = false; armed = false; asleep = false;
 abbrev pub freshModeRegister : ℕ
 freshModeRegister = 0x60
 
+-- fresh registers go by the part (D57)
 abbrev pub freshRegisters : Part → Registers
 freshRegisters M = record { status = 0; protection = 0; cr1 = 0; cr2 = 0x08; cr3 = 0; cr4 = 0x05; mr0 = 0 }
 freshRegisters P = record { status = 0; protection = 0; cr1 = 0; cr2 = 0; cr3 = 0; cr4 = 0; mr0 = freshModeRegister }
 
--- The serial number is 0. The MRAM has four bytes of device identity and a unique number, the PSRAM eight bytes of device identity.
+-- The serial number is 0. The MRAM has four bytes of device identity and a unique number, the PSRAM eight bytes of device identity (D7).
 abbrev pub freshIdentity : Family → List ℕ → List ℕ → Identities
 freshIdentity Mram device unique =
     record { device = getD device 0 0 ∷ getD device 1 0 ∷ getD device 2 0 ∷ getD device 3 0 ∷ replicate 4 0; unique = unique; serial = replicate 8 0 }
 freshIdentity Psram device unique = record { device = device; unique = replicate 8 0; serial = replicate 8 0 }
 
--- the make of a part and a size
+-- the make of a part and a size (D57)
 abbrev pub makeOf : Part → ℕ → Make
 makeOf p n = record { part = partNumber p; n = n }
 

@@ -8,12 +8,12 @@ use Rattle.basis.specs.Truth.{untrue}
 use Rattle.parts.specs.declared.Part.{Part}
 use Rattle.parts.specs.declared.Part.the-variants.{M, P}
 use Rattle.parts.specs.Parts.{partOf, familyOf}
-use Rattle.record.specs.declared.Answer.{Answer}
-use Rattle.record.specs.declared.Answer.the-variants.{Done, Size, Sample, State, Short, Unknown, Asleep, Address, Latch, Protected, Reserved, Long, Unarmed}
-use Rattle.record.specs.declared.Class.{Class}
-use Rattle.record.specs.declared.Class.the-variants as Of
-use Rattle.record.specs.declared.Make.{Make}
-use Rattle.record.specs.declared.Device.{Device}
+use Rattle.record.specs.declared.answers.Answer.{Answer}
+use Rattle.record.specs.declared.answers.Answer.the-variants.{Done, Size, Sample, State, Short, Unknown, Asleep, Address, Latch, Protected, Reserved, Long, Unarmed}
+use Rattle.record.specs.declared.answers.Class.{Class}
+use Rattle.record.specs.declared.answers.Class.the-variants as Of
+use Rattle.record.specs.declared.devices.Make.{Make}
+use Rattle.record.specs.declared.devices.Device.{Device}
 use Rattle.record.specs.Answers.{answerNumber, doneIn, refusedIn, declinedIn, refuses, refusing}
 use Rattle.record.specs.Fresh.{freshRegisters, freshVolatile, freshIdentity, freshOf}
 use Rattle.record.specs.Fields.{armTo, sleepTo}

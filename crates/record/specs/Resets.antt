@@ -4,10 +4,11 @@ use mathlib.Core.Bool.{false}
 use Rattle.parts.specs.declared.Family.{Family}
 use Rattle.parts.specs.declared.Family.the-variants.{Mram, Psram}
 use Rattle.parts.specs.Parts.{partOf, familyOf}
-use Rattle.record.specs.declared.Device.{Device}
+use Rattle.record.specs.declared.devices.Device.{Device}
 use Rattle.record.specs.Fresh.{freshModeRegister}
 use Rattle.record.specs.Fields.{withRegisters, latchTo, armTo, modeTo, sleepTo, toggleTo}
 
+-- the mode register alone: a toggle that is on stays on (D15)
 abbrev pub modeRegisterTo : ℕ → Device → Device
 modeRegisterTo v d =
     let r = d .registers in

@@ -7,7 +7,7 @@ use lib.ListN.{getD, replicate}
 use Rattle.units.specs.declared.Bytes.{Bytes}
 use Rattle.kinds.specs.declared.Register.{Register}
 use Rattle.kinds.specs.declared.Register.the-variants.{Status, AreaProtection, Configuration1, Configuration2, Configuration3, Configuration4, Configurations, Identity, Unique, Serial, ModeRegister, LongIdentity}
-use Rattle.record.specs.declared.Device.{Device}
+use Rattle.record.specs.declared.devices.Device.{Device}
 
 -- a status byte without its bit 1
 abbrev pub withoutLatch : ℕ → ℕ
@@ -35,6 +35,6 @@ shown d Serial = d .identity .serial
 shown d ModeRegister = one (d .registers .mr0)
 shown d LongIdentity = d .identity .device
 
--- byte i of it
+-- byte i of it, byte 0 first (D6)
 abbrev pub shownByte : Device → Register → Bytes → ℕ
 shownByte d r i = getD (shown d r) (i .0) 0

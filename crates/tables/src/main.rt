@@ -66,7 +66,7 @@ fn put_wait(page: &mut [u8], at: usize, f: Family, w: Wires, opcode: u8) -> usiz
     if is_unknown(k) {
         return at;
     }
-    let a = put_decimal(page, at, wait_of(k, w, PartM::FRESH_CR2).0 as u64);
+    let a = put_decimal(page, at, wait_of(k, w, PartM::FRESH_CR2).in_clocks() as u64);
     put(page, a, b' ')
 }
 
@@ -127,11 +127,11 @@ fn body_word(b: Body) -> usize {
 
 fn body_size(b: Body) -> Bytes {
     match b {
-        Body::Nothing => Bytes(0),
+        Body::Nothing => Bytes::none(),
         Body::FixedRead(n) => n,
-        Body::AnyRead => Bytes(0),
+        Body::AnyRead => Bytes::none(),
         Body::FixedWrite(n) => n,
-        Body::AnyWrite => Bytes(0),
+        Body::AnyWrite => Bytes::none(),
     }
 }
 
@@ -145,10 +145,10 @@ fn put_body(page: &mut [u8], at: usize, b: Body) -> usize {
         b"none|read |read any|write |write any",
         body_word(b),
     );
-    if n.0 == 0 {
+    if n.same(Bytes::none()) {
         return put_all(page, c, b" |\n");
     }
-    let d = put_decimal(page, c, n.0 as u64);
+    let d = put_decimal(page, c, n.in_bytes() as u64);
     put_all(page, d, b" |\n")
 }
 
@@ -234,9 +234,9 @@ fn row(page: &mut [u8], table: u8, i: u32) {
         return number_row(page, i as u64, share(b % 8 * 4) as u64);
     }
     if table == 4 {
-        return number_row(page, i as u64, wrap_length(b).0 as u64);
+        return number_row(page, i as u64, wrap_length(b).in_bytes() as u64);
     }
-    number_row(page, i as u64, group_length(b % 4 * 32).0 as u64);
+    number_row(page, i as u64, group_length(b % 4 * 32).in_bytes() as u64);
 }
 
 fn rows(page: &mut [u8], table: u8, n: u32) {

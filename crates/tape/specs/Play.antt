@@ -8,9 +8,9 @@ use Rattle.units.specs.declared.Bytes.{Bytes}
 use Rattle.units.specs.Units.{bytes}
 use Rattle.parts.specs.Parts.{partOf, areaOf}
 use Rattle.counts.specs.Counts.{noCounts}
-use Rattle.record.specs.declared.Answer.the-variants.{Done, Size}
-use Rattle.record.specs.declared.Make.{Make}
-use Rattle.record.specs.declared.Device.{Device}
+use Rattle.record.specs.declared.answers.Answer.the-variants.{Done, Size}
+use Rattle.record.specs.declared.devices.Make.{Make}
+use Rattle.record.specs.declared.devices.Device.{Device}
 use Rattle.record.specs.Fresh.{freshOf}
 use Rattle.places.specs.Addresses.{memorySize}
 use Rattle.paper.specs.Storing.{Lent}
@@ -42,7 +42,7 @@ wiped l = record { memory = replicate (length (l .memory)) 0; area = replicate (
 abbrev pub showing : List ℕ → World → World
 showing out w = record { answer = w .answer; counts = w .counts; device = w .device; lent = w .lent; output = out }
 
--- WHAT A RECORD DOES: where there is none to be played, nothing changes; of a fresh chip all is 0 that it is made with, identity and numbers too
+-- WHAT A RECORD DOES: where there is none to be played, nothing changes; of a fresh chip all is 0 that it is made with, identity and numbers too (D7)
 abbrev pub playOf : Entry → Device → Lent → List ℕ → List ℕ → World
 playOf End d l xs out = refusal d l out Size
 playOf (Bad fault) d l xs out = refusal d l out Size

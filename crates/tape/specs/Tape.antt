@@ -5,7 +5,7 @@ use mathlib.Core.List.{List}
 use lib.Dec.{eqb, leb, ltb}
 use lib.ListN.{length, getD, take, drop}
 use Rattle.parts.specs.Parts.{knownPart}
-use Rattle.record.specs.declared.Make.{Make}
+use Rattle.record.specs.declared.devices.Make.{Make}
 use Rattle.tape.specs.declared.Entry.{Entry}
 use Rattle.tape.specs.declared.Entry.the-variants.{End, Bad, Transaction, PowerCycle, Fresh}
 use Rattle.tape.specs.declared.Fault.the-variants.{Cut, Strange, Samples, Power, Chip}
@@ -19,7 +19,7 @@ wordAt tape at = getD tape at 0 + 256 * getD tape (at + 1) 0
 unfoldable pub freshEntry : Make → Entry
 freshEntry m = cond (not (knownPart (m .part))) (Bad Chip) (cond (ltb (m .n) 10) (Bad Chip) (cond (ltb 15 (m .n)) (Bad Chip) (Fresh m)))
 
--- kinds 1, 2 and 3, each with the payload that it takes
+-- kinds 1, 2 and 3, each with the payload that it takes; a bad record names its fault (D51)
 unfoldable pub entryFor : ℕ → List ℕ → Entry
 entryFor kind payload =
     cond (eqb kind 1) (cond (ltb 4096 (length payload)) (Bad Samples) Transaction)

@@ -3,7 +3,7 @@
 use mathlib.Core.Path.{_≡_}
 use Prim.Native.Nat.{ℕ}
 use mathlib.Core.List.{List}
-use Rattle.record.specs.declared.Device.{Device}
+use Rattle.record.specs.declared.devices.Device.{Device}
 use Rattle.paper.specs.Storing.{Lent}
 use Rattle.device.specs.Unique.{Ended, shows, one-end}
 use Rattle.tape.specs.declared.Entry.{Entry}

@@ -4,7 +4,7 @@
 ghost use mathlib.Core.Path.{_≡_};
 ghost use Prim.Native.Nat.{_+_, _<_};
 ghost use lib.ListN.{length};
-ghost use Rattle.words.specs.Words.{lends, worldOf};
+ghost use Rattle.contract_words.specs.Words.{lends, worldOf};
 ghost use Rattle.tape.specs.Tape.{wordAt, freshEntry, entryFor, nothingBut, foundOf};
 ghost use Rattle.tape.specs.Play.{isGood, memoryOf, socketOf, playOf, playedAt};
 use parts::Part;
@@ -23,11 +23,23 @@ const MOST: u8 = 15;
 
 pub const LARGEST_MEMORY: usize = 32768;
 
+// An address has so many bits: no chip has an n above it.
+const ADDRESS_BITS: u8 = 24;
+
 // The samples that a transaction on a tape has at most.
 pub const MOST_SAMPLES: usize = 4096;
 
+// The bytes of a record before its payload, and the numbers of its kinds.
+const HEAD: usize = 4;
+
+const TRANSACTION: usize = 1;
+
+const POWER_CYCLE: usize = 2;
+
+const FRESH: usize = 3;
+
 // What is wrong with a bad record: it is cut short, it is of a kind that there is not, or its payload is not one of its
-// kind, which is a transaction's, a power cycle's or a fresh chip's.
+// kind, which is a transaction's, a power cycle's or a fresh chip's (D51).
 pub enum Fault {
     Cut,
     Strange,
@@ -91,19 +103,19 @@ fn fresh_entry(make: Make) -> Entry
 fn entry_for(kind: usize, payload: &[u8]) -> Entry
     ensures { λ r. ⌜ r ≡ entryFor kind (now (payload .entry)) ⌝ }
 {
-    if kind == 1 {
+    if kind == TRANSACTION {
         if MOST_SAMPLES < payload.len() {
             return Entry::Bad(Fault::Samples);
         }
         return Entry::Transaction;
     }
-    if kind == 2 {
+    if kind == POWER_CYCLE {
         if payload.len() != 0 {
             return Entry::Bad(Fault::Power);
         }
         return Entry::PowerCycle;
     }
-    if kind != 3 {
+    if kind != FRESH {
         return Entry::Bad(Fault::Strange);
     }
     if payload.len() != 2 {
@@ -123,15 +135,15 @@ pub fn entry_at(tape: &[u8], at: usize) -> Found
     if n <= at {
         return nothing(Entry::End);
     }
-    if n - at < 4 {
+    if n - at < HEAD {
         return nothing(Entry::Bad(Fault::Cut));
     }
     let long = word_at(tape, at);
     let kind = word_at(tape, at + 2);
-    if n - at - 4 < long {
+    if n - at - HEAD < long {
         return nothing(Entry::Bad(Fault::Cut));
     }
-    let from = at + 4;
+    let from = at + HEAD;
     let next = from + long;
     let entry = entry_for(kind, &tape[from..next]);
     Found { entry, from, next }
@@ -160,8 +172,8 @@ pub fn is_good(chip: bool, e: Entry) -> bool
 fn memory_of(n: u8) -> Bytes
     ensures { λ r. ⌜ r ≡ memoryOf n ⌝ }
 {
-    if 24 < n {
-        return Bytes(0);
+    if ADDRESS_BITS < n {
+        return Bytes::none();
     }
     places::memory_size(n)
 }
@@ -177,7 +189,7 @@ pub fn socket_of(make: Make) -> Socket
 }
 
 // What a record does to the chip. The identity and the numbers of a fresh one are 0.
-pub fn play(
+fn play(
     e: Entry,
     d: Device,
     memory: &mut [u8],

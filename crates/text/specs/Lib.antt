@@ -1,3 +1,4 @@
+pub mod Decimal
 pub mod Upper
 pub mod Words
 pub mod Same

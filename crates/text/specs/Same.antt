@@ -8,7 +8,7 @@ use lib.Dec.{eqb}
 use lib.ListN.{length, getD, drop, drop-of-length-le}
 use borrow.Author.Tests.{eq-eqb, ne-eqb}
 use native.Mathlib.Omega.{arith}
-use Rattle.pages.specs.Laws.{drop-one}
+use Rattle.buffers.specs.Laws.{drop-one}
 
 unfoldable pub isSame : List ℕ → List ℕ → Bool
 isSame [] [] = true

@@ -7,7 +7,7 @@ use Prim.Native.Nat.{ℕ, _+_, _-_, _<_}
 use lib.Dec.{eqb}
 use lib.ListN.{length, getD, drop}
 use borrow.Author.Tests.{ne-eqb}
-use Rattle.pages.specs.Laws.{drop-one}
+use Rattle.buffers.specs.Laws.{drop-one}
 
 unfoldable pub wordOf : ℕ → List ℕ → List ℕ
 wordOf n [] = []

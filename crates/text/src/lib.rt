@@ -2,12 +2,13 @@
 // comes back. What finds no room is left out, and the place stays.
 ghost use mathlib.Core.Path.{_≡_};
 ghost use mathlib.Core.List.{map};
-ghost use Rattle.pages.specs.Page.{page, putsOf};
+ghost use Rattle.buffers.specs.Page.{page, putsOf};
+ghost use Rattle.text.specs.Decimal.{decimalOf};
 ghost use Rattle.text.specs.Upper.{upperOf};
 ghost use Rattle.text.specs.Words.{wordOf};
 ghost use Rattle.text.specs.Same.{isSame};
-pub use pages::put;
-pub use pages::put_all;
+pub use buffers::put;
+pub use buffers::put_all;
 
 // One word of a list, number 0 the first. Bars stand between the words.
 pub fn put_word(text: &mut [u8], at: usize, words: &[u8], number: usize) -> usize
@@ -51,7 +52,9 @@ pub fn is_same(a: &[u8], b: &[u8]) -> bool
 }
 
 // A number in decimal.
-pub fn put_decimal(text: &mut [u8], at: usize, v: u64) -> usize {
+pub fn put_decimal(text: &mut [u8], at: usize, v: u64) -> usize
+    ensures { λ r. ⌜ page r (now (text .exit)) ≡ putsOf (decimalOf v) (page at (now (text .entry))) ⌝ }
+{
     let mut digits = [0u8; 20];
     let n = io::decimal(v, &mut digits);
     put_all(text, at, &digits[..n])

@@ -1,8 +1,8 @@
 -- Laws of clocks and bytes, for any wires.
 -- Assumes nothing.
 use mathlib.Core.Path.{_≡_, refl, ap}
-use Prim.Native.Nat.{ℕ, _+_, _*_, _/_, _<_, _≤_}
-use native.Mathlib.Nat.{mul-div-cancel, div-add-mod'}
+use Prim.Native.Nat.{ℕ, _+_, _-_, _*_, _/_, _%_, _<_, _≤_}
+use native.Mathlib.Nat.{mul-div-cancel, div-add-mod', mod-lt}
 use native.Mathlib.Omega.{arith}
 use lib.Dec.{lit<}
 use Rattle.units.specs.declared.Clocks.{Clocks}
@@ -32,6 +32,16 @@ pub clocks-few : (w : Wires) (k : ℕ) → k ≤ 65535 → k * perByte w ≤ 524
 clocks-few One k h = omega arith
 clocks-few Two k h = omega arith
 clocks-few Four k h = omega arith
+
+-- and so few clocks carry bits that it holds
+pub bits-few : (w : Wires) (k : ℕ) → k ≤ 65535 → wiresOf w * k ≤ 262140
+bits-few One k h = omega arith
+bits-few Two k h = omega arith
+bits-few Four k h = omega arith
+
+-- clock k of its byte is not past the byte's last
+pub coming-fits : (w : Wires) (k : Clocks) → k .0 % perByte w ≤ perByte w - 1
+coming-fits w k = let h = mod-lt (k .0) (perByte-pos w) in omega arith
 
 -- the clocks of whole bytes carry just these bytes
 pub whole-of-clocks : (w : Wires) (b : Bytes) → wholeOf w (clocksOf w b) ≡ b

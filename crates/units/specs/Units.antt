@@ -1,8 +1,8 @@
 -- Clocks and bytes. Document 01, "Samples", last sentence: the two are never taken for one another. Each is a type of its own here too, and every
--- way from one to the other names the wires.
-use Prim.Native.Nat.{ℕ, _+_, _*_, _/_, _%_}
+-- way from one to the other names the wires (D64).
+use Prim.Native.Nat.{ℕ, _+_, _-_, _*_, _/_, _%_}
 use mathlib.Core.Bool.{Bool}
-use lib.Dec.{ltb, leb}
+use lib.Dec.{ltb, leb, eqb}
 use Rattle.units.specs.declared.Clocks.{Clocks}
 use Rattle.units.specs.declared.Bytes.{Bytes}
 use Rattle.units.specs.declared.Wires.{Wires}
@@ -14,11 +14,21 @@ clocks k = record { 0 = k }
 abbrev pub bytes : ℕ → Bytes
 bytes k = record { 0 = k }
 
--- one clock more
+-- one clock more, and one byte
 abbrev pub next : Clocks → Clocks
 next c = clocks (c .0 + 1)
 
--- clocks are compared with clocks, and bytes with bytes
+abbrev pub nextByte : Bytes → Bytes
+nextByte b = bytes (b .0 + 1)
+
+-- clocks and more clocks, and clocks without some of them
+abbrev pub plus : Clocks → Clocks → Clocks
+plus c d = clocks (c .0 + d .0)
+
+abbrev pub less : Clocks → Clocks → Clocks
+less c d = clocks (c .0 - d .0)
+
+-- clocks are compared with clocks, and bytes with bytes (D64)
 abbrev pub fewer : Clocks → Clocks → Bool
 fewer c d = ltb (c .0) (d .0)
 
@@ -30,6 +40,9 @@ fewerBytes b c = ltb (b .0) (c .0)
 
 abbrev pub atMostBytes : Bytes → Bytes → Bool
 atMostBytes b c = leb (b .0) (c .0)
+
+abbrev pub sameBytes : Bytes → Bytes → Bool
+sameBytes b c = eqb (b .0) (c .0)
 
 -- no transaction has more clocks. Document 01, "Samples", first sentence, and "Answer numbers", row 1
 abbrev pub longest : Clocks
@@ -60,3 +73,11 @@ wholeOf w c = bytes (c .0 / perByte w)
 -- the clocks past the last whole byte
 abbrev pub unfinishedOf : Wires → Clocks → Clocks
 unfinishedOf w c = clocks (c .0 % perByte w)
+
+-- the clocks of its byte that come after clock k, counted from 0
+abbrev pub comingOf : Wires → Clocks → Clocks
+comingOf w k = clocks (perByte w - 1 - k .0 % perByte w)
+
+-- the bits that so many clocks carry
+abbrev pub bitsIn : Wires → Clocks → ℕ
+bitsIn w c = wiresOf w * c .0

@@ -1,4 +1,4 @@
--- Numbers on wires. Document 01, "Samples", first paragraph. High bits go before low ones, and each clock carries as many as there are wires. The
+-- Numbers on wires. Document 01, "Samples", first paragraph. High bits go before low ones (D6), and each clock carries as many as there are wires. The
 -- higher bit of a pair stands on the higher wire, and so do the bits of a nibble: the bits of a clock are the low bits of its sample, as a number.
 use Prim.Native.Nat.{ℕ, zero, suc, _+_, _*_, _/_, _%_, _^_, _-_}
 use mathlib.Core.List.{List, [], _∷_}
@@ -11,7 +11,7 @@ abbrev pub bitsOf : Wires → ℕ → ℕ
 bitsOf w x = x % 2 ^ wiresOf w
 
 -- The number gathered so far, with one more clock's bits below it. What is gathered is a byte or an address, and the register that gathers it is as
--- wide as an address, 24 bits: older bits leave it at the top.
+-- wide as an address, 24 bits: older bits leave it at the top (D19).
 unfoldable pub shiftOf : Wires → ℕ → ℕ → ℕ
 shiftOf w number x = (number * 2 ^ wiresOf w + bitsOf w x) % 2 ^ 24
 

@@ -10,13 +10,20 @@ use lib.Pow.{pow-add, pow-pos, pow-mono, mod-pow-add, high, low, shr-shr}
 use lib.Arith.{digits-lt}
 use Rattle.units.specs.declared.Wires.{Wires}
 use Rattle.units.specs.declared.Clocks.{Clocks}
-use Rattle.units.specs.Units.{wiresOf, perByte}
+use Rattle.units.specs.declared.Wires.the-variants.{One, Two, Four}
+use Rattle.units.specs.Units.{wiresOf, perByte, comingOf, bitsIn}
 use Rattle.units.specs.Laws.{bits-of-byte, perByte-pos}
 use Rattle.wires.specs.Bits.{bitsOf, shiftOf, gatherFrom, gather, above, spelled, groupOf}
 
 -- the product that a shift makes before the register cuts it fits the machine's word
 pub shift-fits : {number v : ℕ} → number < 2 ^ 32 → v < 2 ^ 8 → number * v < 2 ^ 40
 shift-fits {number} {v} h l = lt-of-le-of-lt (mul-le-mul-left number (le-of-lt l)) (mul-lt-mul-of-pos-right h (pow-pos 8))
+
+-- fewer than eight bits of a byte come after a clock of it
+pub below-byte : (w : Wires) (k : Clocks) → bitsIn w (comingOf w k) < 8
+below-byte One k = omega arith
+below-byte Two k = omega arith
+below-byte Four k = omega arith
 
 module _ (w : Wires) where
   -- gathering goes on where it stopped
@@ -117,7 +124,7 @@ module _ (w : Wires) where
       rw (gather-high (i + k) (shiftOf w number x) xs s (q .1), shift-is i number x h (q .0), low number k (mod-lt x (pow-pos k))) in
       rw (first, spread-gather-from (i + k) (shiftOf w number x) xs s (q .1))
 
-  -- GATHERING UNDOES SPREADING: a number that fits its clocks is gathered from the samples that spell it
+  -- GATHERING UNDOES SPREADING: a number that fits its clocks, of up to 24 bits, is gathered from the samples that spell it (D19)
   pub gather-spread : (n v : ℕ) → wiresOf w * n ≤ 24 → v < 2 ^ (wiresOf w * n) → gather w (spelled w n v) ≡ v
   gather-spread n v r h = rw (gather-spread-from n 0 0 v (pow-pos 0) (rw zero-add r), zero-mul, zero-add, mod-eq-of-lt h)
 

@@ -7,6 +7,9 @@ ghost use Rattle.wires.specs.Levels.{levelOf, seenOf, drivenOf};
 use units::Clocks;
 use units::Wires;
 
+// The register that gathers an address or a byte is 24 bits wide: how many numbers it holds.
+const REGISTER: u64 = 16777216;
+
 // How many values the bits of one clock have.
 pub fn values(w: Wires) -> u8
     ensures { λ r. ⌜ r ≡ 2 ^ wiresOf w ⌝ }
@@ -19,7 +22,7 @@ pub fn values(w: Wires) -> u8
 }
 
 // The bits that a sample carries on these wires. The other wires are ignored.
-pub fn bits(x: u8, w: Wires) -> u8
+fn bits(x: u8, w: Wires) -> u8
     ensures { λ r. ⌜ r ≡ bitsOf w x ⌝ }
 {
     x % values(w)
@@ -32,18 +35,15 @@ pub fn shift_in(number: u32, x: u8, w: Wires) -> u32
     let n = number as u64;
     let v = values(w) as u64;
     let b = bits(x, w) as u64;
-    ((n * v + b) % 16777216) as u32
+    ((n * v + b) % REGISTER) as u32
 }
 
 // The bits of the byte `b` that travel in clock `k` of it, counted from 0.
 pub fn group(b: u8, k: Clocks, w: Wires) -> u8
     ensures { λ r. ⌜ r ≡ groupOf w k b ⌝ }
 {
-    match w {
-        Wires::One => (b >> (7 - k.0 % 8)) % 2,
-        Wires::Two => (b >> (2 * (3 - k.0 % 4))) % 4,
-        Wires::Four => (b >> (4 * (1 - k.0 % 2))) % 16,
-    }
+    let below = units::bits_in(units::coming(k, w), w);
+    (b >> below) % values(w)
 }
 
 // The output byte of a clock in which the device drives these bits.

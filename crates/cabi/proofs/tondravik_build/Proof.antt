@@ -14,7 +14,7 @@ tondravik-build-spec =
     (tie.spec
     -- returns
     (λ c. rw (ne-eqb _ _ (c .if1 .taken)))
-    -- build-requires, put-number-requires, answer-number-requires, same-length, same-length-2
-    (λ c κs. tt) (λ c κs. tt) (λ c κs. tt) (λ c. search needs) (λ c. search needs)
+    -- stated-requires, build-requires, in-clocks-requires, put-number-requires, answer-number-requires, same-length, same-length-2
+    (λ c κs. tt) (λ c κs. tt) (λ c κs. tt) (λ c κs. tt) (λ c κs. tt) (λ c. search needs) (λ c. search needs)
     -- returns-2
-    (λ c. rw (c .answer-number .ensures, c .before .before .before .put-number .ensures) (build-told _ _ (c .before .before .before .before .before .before .before .before .before .if1 .left) _ _ (c .before .before .before .before .before .before .before .build .ensures))))
+    (λ c. rw (c .answer-number .ensures, c .before .before .before .put-number .ensures, c .before .before .before .before .before .in-clocks .ensures) (build-told _ _ (c .before .before .before .before .before .before .before .before .before .before .before .before .if1 .left) _ _ (rw (c .before .before .before .before .before .before .before .before .before .before .before .stated .ensures) at (c .before .before .before .before .before .before .before .before .before .build .ensures)))))

@@ -14,7 +14,7 @@ tondravik-gather-spec =
     (tie.spec
     -- returns
     (λ c. rw (ne-eqb _ _ (c .if1 .taken)))
-    -- gather-requires, put-number-requires, answer-number-requires, same-length, same-length-2
-    (λ c κs. tt) (λ c κs. tt) (λ c κs. tt) (λ c. search needs) (λ c. search needs)
+    -- gather-requires, in-bytes-requires, put-number-requires, answer-number-requires, same-length, same-length-2
+    (λ c κs. tt) (λ c κs. tt) (λ c κs. tt) (λ c κs. tt) (λ c. search needs) (λ c. search needs)
     -- returns-2
-    (λ c. rw (c .answer-number .ensures, c .before .before .before .put-number .ensures) (gather-told _ _ (c .before .before .before .before .before .before .before .before .before .if1 .left) _ _ _ (c .before .before .before .before .before .before .before .gather .ensures))))
+    (λ c. rw (c .answer-number .ensures, c .before .before .before .put-number .ensures, c .before .before .before .before .before .in-bytes .ensures) (gather-told _ _ (c .before .before .before .before .before .before .before .before .before .before .before .if1 .left) _ _ _ (c .before .before .before .before .before .before .before .before .before .gather .ensures))))

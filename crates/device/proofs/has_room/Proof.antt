@@ -1,6 +1,5 @@
 -- `device::has_room` meets its contract: the clocks decide, and then the room.
 -- Assumes nothing.
-use borrow.Author.Tests.{lt-leb, le-leb}
 use Rattle.paper.specs.Transaction.{roomFor}
 use Rattle.device.proofs.has_room.Statement.{statement}
 use Rattle.device.proofs.has_room.Tie as tie
@@ -10,7 +9,9 @@ unfolding roomFor
 has-room-spec =
     tie.close
     (tie.spec
+    -- of-samples-requires, longest-requires, at-most-requires, of-samples-requires-2, at-most-requires-2
+    (λ c κs. tt) (λ c κs. tt) (λ c κs. tt) (λ c κs. tt) (λ c κs. tt)
     -- returns
-    (λ c. rw (lt-leb _ _ (c .if1 .taken)))
+    (λ c. rw (← (rw (c .before .before .before .before .before .of-samples .ensures, c .before .before .before .before .longest .ensures) at (c .before .before .before .at-most .ensures)), c .before .before .if1 .taken, c .at-most2 .ensures, c .before .before .before .before .before .of-samples .ensures, c .before .of-samples2 .ensures))
     -- returns-2
-    (λ c. rw (le-leb _ _ (c .if1 .left))))
+    (λ c. rw (← (rw (c .before .before .before .of-samples .ensures, c .before .before .longest .ensures) at (c .before .at-most .ensures)), c .if1 .left)))

@@ -5,7 +5,7 @@ use native.Mathlib.Omega.{arith}
 use lib.ListN.{length}
 use Rattle.digits.proofs.put_pairs.Statement.{statement}
 use Rattle.digits.specs.Laws.{Pairing, pair-start, pair-turn, pair-end}
-use Rattle.pages.specs.Page.{page}
+use Rattle.buffers.specs.Page.{page}
 use Rattle.digits.proofs.put_pairs.Tie as tie
 
 abbrev Inv-loop : tie.InvT-loop

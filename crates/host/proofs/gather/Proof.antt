@@ -11,10 +11,10 @@ pub gather-spec : {M : Type 1} → statement M
 gather-spec =
     tie.close
     (tie.spec
-    -- refusal-requires, is-done-requires, same-length
-    (λ c κs. tt) (λ c κs. tt) (λ c. search needs)
+    -- refusal-requires, is-done-requires, none-requires, same-length
+    (λ c κs. tt) (λ c κs. tt) (λ c κs. tt) (λ c. search needs)
     -- returns
-    (λ c. gather-refused _ _ _ (c .before .before .refusal .ensures) (sym (c .before .is-done .ensures) ∙ not-true (c .before .is-done .result) (c .if1 .taken)))
+    (λ c. rw (c .none .ensures) (gather-refused _ _ _ (c .before .before .before .refusal .ensures) (sym (c .before .before .is-done .ensures) ∙ not-true (c .before .before .is-done .result) (c .before .if1 .taken))))
     -- mode-wires-requires, put-collected-requires, same-length-2
     (λ c κs. tt) (λ c κs. tt) (λ c. search needs)
     -- returns-2

@@ -10,6 +10,8 @@ pub put-first-spec : {M : Type 1} → statement M
 put-first-spec =
     tie.close
     (tie.spec
+    -- in-bytes-requires
+    (λ c κs. tt)
     -- slice-aggregate-put-row
     (λ c. sym (length-take-le _ _ (c .before .before .if1 .taken)))
     -- put-row-requires, same-length, returns, returns-2

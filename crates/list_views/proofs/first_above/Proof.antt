@@ -23,11 +23,9 @@ first-above-spec =
     (λ c. search needs)
     -- shared-slice-read-x
     (λ c. omega arith)
-    -- returns
-    (λ c. tt)
     -- add-i
     (λ c. omega arith)
     -- loop-less
     (λ c. omega arith)
-    -- loop-again, returns-2
-    (λ c. search needs) (λ c. tt))
+    -- loop-again, stated-requires, returns
+    (λ c. search needs) (λ c κs. tt) (λ c. tt))

@@ -20,16 +20,16 @@ gather-spec =
     (tie.spec
     Inv-loop
     μ-loop
-    -- loop-holds
-    (λ c. search needs)
+    -- none-requires, loop-holds
+    (λ c κs. tt) (λ c. search needs)
     -- shared-slice-read-x
     (λ c. omega arith)
     -- levels-requires, shift-in-requires
     (λ c κs. tt) (λ c κs. tt)
     -- add-i
     (λ c. omega arith)
-    -- keep-byte-requires
-    (λ c κs. tt)
+    -- stated-requires, keep-byte-requires
+    (λ c κs. tt) (λ c κs. tt)
     -- loop-less
     (λ c. omega arith)
     -- loop-again, same-length, returns

@@ -7,10 +7,10 @@ use Rattle.list_views.proofs.number_in.Statement.{statement}
 use Rattle.list_views.proofs.number_in.Tie as tie
 
 abbrev Inv-loop : tie.InvT-loop
-Inv-loop samples from till w number₀ i₀ number i = Unit {0}
+Inv-loop samples w end number₀ i₀ number i = Unit {0}
 
 abbrev μ-loop : tie.MeasureT-loop
-μ-loop samples from till w number₀ i₀ number i = till - i
+μ-loop samples w end number₀ i₀ number i = end - i
 
 pub number-in-spec : {M : Type 1} → statement M
 number-in-spec =
@@ -18,8 +18,8 @@ number-in-spec =
     (tie.spec
     Inv-loop
     μ-loop
-    -- loop-holds, byte-at-requires, shift-in-requires
-    (λ c. search needs) (λ c κs. tt) (λ c κs. tt)
+    -- in-clocks-requires, in-clocks-requires-2, loop-holds, byte-at-requires, shift-in-requires
+    (λ c κs. tt) (λ c κs. tt) (λ c. search needs) (λ c κs. tt) (λ c κs. tt)
     -- add-i
     (λ c. omega arith)
     -- loop-less

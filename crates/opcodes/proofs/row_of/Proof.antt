@@ -2,13 +2,13 @@
 -- Assumes nothing.
 use mathlib.Core.Path.{sym}
 use mathlib.Core.Logic.{⊎-elim}
-use Rattle.opcodes.specs.Opcodes.{entryOf}
+use Rattle.opcodes.specs.Opcodes.{meaningOf}
 use Rattle.opcodes.specs.OpcodeLaws.{row-by, row-away}
 use Rattle.opcodes.proofs.row_of.Statement.{statement}
 use Rattle.opcodes.proofs.row_of.Tie as tie
 
 pub row-of-spec : {M : Type 1} → statement M
-unfolding entryOf
+unfolding meaningOf
 row-of-spec =
     tie.close
     (tie.spec

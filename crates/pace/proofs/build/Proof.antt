@@ -10,8 +10,8 @@ pub build-spec : {M : Type 1} → statement M
 build-spec =
     tie.close
     (tie.spec
-    -- bytes-in-requires, fill-requires, same-length, returns, order-requires, slice-reshare-prefix-build
-    (λ c κs. tt) (λ c κs. tt) (λ c. search needs) (λ c. tt) (λ c κs. tt) (λ c. search needs)
+    -- bytes-in-requires, in-bytes-requires, fill-requires, same-length, returns, order-requires, slice-reshare-prefix-build
+    (λ c κs. tt) (λ c κs. tt) (λ c κs. tt) (λ c. search needs) (λ c. tt) (λ c κs. tt) (λ c. search needs)
     -- slice-aggregate-build
     (λ c. sym (length-take-le _ _ (c .before .before .if1 .left)))
     -- build-requires, same-length-2, same-length-3, returns-2

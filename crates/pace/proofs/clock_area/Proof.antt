@@ -10,8 +10,8 @@ pub clock-area-spec : {M : Type 1} → statement M
 clock-area-spec =
     tie.close
     (tie.spec
-    -- of-requires, area-requires, returns, array-borrow-prefix-area
-    (λ c κs. tt) (λ c κs. tt) (λ c. tt) (λ c. search needs)
+    -- of-requires, area-requires, in-bytes-requires, returns, array-borrow-prefix-area
+    (λ c κs. tt) (λ c κs. tt) (λ c κs. tt) (λ c. tt) (λ c. search needs)
     -- slice-aggregate-clocked-all
     (λ c. sym (length-take-le _ _ (c .before .before .if1 .left)))
     -- clocked-all-requires, same-length, same-length-2, returns-2

@@ -13,13 +13,13 @@ unfolding areaProtectedOf
 area-protected-spec =
     tie.close
     (tie.spec
-    -- family-requires, enum-told, section-requires
-    (λ c κs. tt) (λ c. search needs) (λ c κs. tt)
+    -- family-requires, enum-told, section-requires, in-bytes-requires
+    (λ c κs. tt) (λ c. search needs) (λ c κs. tt) (λ c κs. tt)
     -- div-section-shut
-    (λ c. let s = sectioned (c .before .before .before .before .before .args .s .part) (sym (c .before .before .before .before .family .ensures) ∙ c .before .before .enum-told .given .1) in rw (c .before .section .ensures) (omega (arith, s .section)))
+    (λ c. let s = sectioned (c .before .before .before .before .before .args .s .part) (sym (c .before .before .before .before .family .ensures) ∙ c .before .before .enum-told .given .1) in rw (c .in-bytes .ensures, c .before .section .ensures) (omega (arith, s .section)))
     -- section-shut-requires, enum-told-2
     (λ c κs. tt) (λ c. search needs)
     -- returns
-    (λ c. rw (sym (c .before .before .before .before .before .family .ensures) ∙ c .before .before .before .enum-told .given .1, c .section-shut .ensures, c .before .before .section .ensures))
+    (λ c. rw (sym (c .before .before .before .before .before .family .ensures) ∙ c .before .before .before .enum-told .given .1, c .section-shut .ensures, c .before .in-bytes .ensures, c .before .before .section .ensures))
     -- returns-2
     (λ c. rw (sym (c .before .before .family .ensures) ∙ c .enum-told2 .given .1)))

@@ -7,8 +7,10 @@ pub group-in-force-spec : {M : Type 1} → statement M
 group-in-force-spec =
     tie.close
     (tie.spec
+    -- stated-requires
+    (λ c κs. tt)
     -- returns
-    (λ c. rw (c .if1 .taken))
+    (λ c. rw (c .before .if1 .taken, c .stated .ensures))
     -- group-length-requires
     (λ c κs. tt)
     -- returns-2

@@ -8,9 +8,9 @@ pub memory-allowed-spec : {M : Type 1} → statement M
 memory-allowed-spec =
     tie.close
     (tie.spec
-    -- enum-told, memory-size-requires, enum-told-2
-    (λ c. search needs) (λ c κs. search needs) (λ c. search needs)
+    -- enum-told, memory-size-requires, in-bytes-requires, enum-told-2
+    (λ c. search needs) (λ c κs. search needs) (λ c κs. tt) (λ c. search needs)
     -- returns
-    (λ c. rw (c .before .before .enum-told .given .1, c .before .memory-size .ensures))
+    (λ c. rw (c .before .before .enum-told .given .1, c .in-bytes .ensures, c .before .memory-size .ensures))
     -- returns-2
     (λ c. search needs))

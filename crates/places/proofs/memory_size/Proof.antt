@@ -12,7 +12,7 @@ pub memory-size-spec : {M : Type 1} → statement M
 memory-size-spec =
     tie.close
     (tie.spec
-    -- shl-t3
-    (λ c. search needs)
+    -- shl-stated, stated-requires
+    (λ c. search needs) (λ c κs. tt)
     -- returns
-    (λ c. rw one-mul (ap bytes (size-fits (c .args .n) (c .pre)))))
+    (λ c. rw (c .stated .ensures, one-mul) (ap bytes (size-fits (c .before .args .n) (c .before .pre)))))

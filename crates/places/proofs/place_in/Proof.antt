@@ -1,6 +1,5 @@
 -- `places::place_in` meets its contract: the start of the group is no more than the address, and the rest less than the group.
 -- Assumes nothing.
-use mathlib.Core.Path.{refl}
 use Prim.Native.Nat.{_+_, _%_}
 use native.Mathlib.Nat.{div-mul-le-self, mod-le}
 use native.Mathlib.Omega.{arith}
@@ -13,17 +12,19 @@ unfolding placeIn
 place-in-spec =
     tie.close
     (tie.spec
+    -- in-bytes-requires, in-bytes-requires-2, in-bytes-requires-3
+    (λ c κs. tt) (λ c κs. tt) (λ c κs. tt)
     -- rem-a
-    (λ c. c .pre .store)
+    (λ c. rw (c .before .before .in-bytes .ensures) (c .before .before .before .pre .store))
     -- div-result
-    (λ c. c .pre .group)
+    (λ c. rw (c .before .in-bytes2 .ensures) (c .before .before .before .pre .group))
     -- mul-result
-    (λ c. omega (arith, div-mul-le-self (c .args .address % c .args .size .0) (c .args .span .0), mod-le (c .args .address) (c .args .size .0), c .fits .address))
+    (λ c. rw (c .before .before .in-bytes .ensures, c .before .in-bytes2 .ensures) (omega (arith, div-mul-le-self (c .before .before .before .args .address % c .before .before .before .args .size .0) (c .before .before .before .args .span .0), mod-le (c .before .before .before .args .address) (c .before .before .before .args .size .0), c .before .before .before .fits .address)))
     -- add-result
-    (λ c. omega (arith, mod-le (c .args .address) (c .args .size .0), c .fits .address, c .pre .few))
+    (λ c. rw (c .before .before .in-bytes .ensures, c .in-bytes3 .ensures) (omega (arith, mod-le (c .before .before .before .args .address) (c .before .before .before .args .size .0), c .before .before .before .fits .address, c .before .before .before .pre .few)))
     -- rem-result
-    (λ c. c .pre .group)
+    (λ c. rw (c .before .in-bytes2 .ensures) (c .before .before .before .pre .group))
     -- add-result-2
-    (λ c. omega (arith, div-mul-le-self (c .args .address % c .args .size .0) (c .args .span .0), mod-le (c .args .address % c .args .size .0 + c .args .i .0) (c .args .span .0), mod-le (c .args .address) (c .args .size .0), c .fits .address, c .pre .few))
+    (λ c. rw (c .before .before .in-bytes .ensures, c .before .in-bytes2 .ensures, c .in-bytes3 .ensures) (omega (arith, div-mul-le-self (c .before .before .before .args .address % c .before .before .before .args .size .0) (c .before .before .before .args .span .0), mod-le (c .before .before .before .args .address % c .before .before .before .args .size .0 + c .before .before .before .args .i .0) (c .before .before .before .args .span .0), mod-le (c .before .before .before .args .address) (c .before .before .before .args .size .0), c .before .before .before .fits .address, c .before .before .before .pre .few)))
     -- returns
-    (λ c. refl))
+    (λ c. rw (c .before .before .in-bytes .ensures, c .before .in-bytes2 .ensures, c .in-bytes3 .ensures)))

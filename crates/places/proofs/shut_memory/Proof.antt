@@ -14,13 +14,13 @@ unfolding shutMemory
 shut-memory-spec =
     tie.close
     (tie.spec
-    -- memory-size-requires, share-requires
-    (λ c κs. search needs) (λ c κs. tt)
+    -- memory-size-requires, in-bytes-requires, share-requires
+    (λ c κs. search needs) (λ c κs. tt) (λ c κs. tt)
     -- mul-shut
-    (λ c. rw (c .before .memory-size .ensures, c .share .ensures) (omega (arith, shut-le (c .before .before .args .n) (c .before .before .args .status), size-small (c .before .before .args .n) (c .before .before .pre))))
+    (λ c. rw (c .before .in-bytes .ensures, c .before .before .memory-size .ensures, c .share .ensures) (omega (arith, shut-le (c .before .before .before .args .n) (c .before .before .before .args .status), size-small (c .before .before .before .args .n) (c .before .before .before .pre))))
     -- returns
-    (λ c. rw (c .before .before .memory-size .ensures, c .before .share .ensures, c .if1 .taken))
+    (λ c. rw (c .before .before .in-bytes .ensures, c .before .before .before .memory-size .ensures, c .before .share .ensures, c .if1 .taken))
     -- sub-result
-    (λ c. rw (c .before .before .memory-size .ensures, c .before .share .ensures) (shut-le (c .before .before .before .args .n) (c .before .before .before .args .status)))
+    (λ c. rw (c .before .before .in-bytes .ensures, c .before .before .before .memory-size .ensures, c .before .share .ensures) (shut-le (c .before .before .before .before .args .n) (c .before .before .before .before .args .status)))
     -- returns-2
-    (λ c. rw (c .before .before .memory-size .ensures, c .before .share .ensures, ne-eqb (c .before .before .before .args .status / 32 % 2) 1 (c .if1 .left))))
+    (λ c. rw (c .before .before .in-bytes .ensures, c .before .before .before .memory-size .ensures, c .before .share .ensures, ne-eqb (c .before .before .before .before .args .status / 32 % 2) 1 (c .if1 .left))))

@@ -11,8 +11,10 @@ unfolding memoryOf
 memory-of-spec =
     tie.close
     (tie.spec
+    -- none-requires
+    (λ c κs. tt)
     -- returns
-    (λ c. rw (lt-ltb _ _ (c .if1 .taken)))
+    (λ c. rw (lt-ltb _ _ (c .before .if1 .taken), c .none .ensures))
     -- memory-size-requires
     (λ c κs. search needs)
     -- returns-2

@@ -4,8 +4,8 @@ use Prim.Native.Nat.{_-_}
 use native.Mathlib.Omega.{arith}
 use mathlib.Core.List.{map}
 use lib.ListN.{length, drop, drop-of-length-le}
-use Rattle.pages.specs.Page.{page}
-use Rattle.pages.specs.Laws.{Left, none-put, put-one, all-put, drop-one}
+use Rattle.buffers.specs.Page.{page}
+use Rattle.buffers.specs.Laws.{Left, none-put, put-one, all-put, drop-one}
 use Rattle.text.specs.Upper.{upperOf}
 use mathlib.Core.Path.{ap}
 use Rattle.text.proofs.put_upper.Statement.{statement}

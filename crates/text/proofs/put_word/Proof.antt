@@ -5,8 +5,8 @@ use mathlib.Core.Path.{refl}
 use Prim.Native.Nat.{_-_}
 use native.Mathlib.Omega.{arith}
 use lib.ListN.{length, drop, drop-of-length-le}
-use Rattle.pages.specs.Laws.{Left, none-put, put-one, put-some, all-put}
-use Rattle.pages.specs.Page.{page, putsOf}
+use Rattle.buffers.specs.Laws.{Left, none-put, put-one, put-some, all-put}
+use Rattle.buffers.specs.Page.{page, putsOf}
 use Rattle.text.proofs.put_word.Statement.{statement}
 use Rattle.text.specs.Words.{wordOf, word-end, word-bar, word-byte, word-past}
 use Rattle.text.proofs.put_word.Tie as tie

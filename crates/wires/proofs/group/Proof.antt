@@ -1,8 +1,11 @@
--- `wires::group` meets its contract: each arm shifts by the bits that stand below the clock on its wires.
+-- `wires::group` meets its contract: the shift is by the bits that come after the clock.
 -- Assumes nothing.
-use native.Mathlib.Nat.{one-mul}
+use native.Mathlib.Omega.{arith}
+use lib.Pow.{pow-pos}
+use Rattle.units.specs.Units.{wiresOf}
+use Rattle.units.specs.Laws.{perByte-le}
 use Rattle.wires.specs.Bits.{groupOf}
-use borrow.Author.Needs.{needs}
+use Rattle.wires.specs.Laws.{below-byte}
 use Rattle.wires.proofs.group.Statement.{statement}
 use Rattle.wires.proofs.group.Tie as tie
 
@@ -11,11 +14,17 @@ unfolding groupOf
 group-spec =
     tie.close
     (tie.spec
-    -- enum-told, sub-result, cast-result, shr-result, enum-told-2, sub-result-2, mul-result, cast-result-2, shr-result-2, enum-told-3, sub-result-3, mul-result-2, cast-result-3, shr-result-3
-    (λ c. search needs) (λ c. search needs) (λ c. search needs) (λ c. search needs) (λ c. search needs) (λ c. search needs) (λ c. search needs) (λ c. search needs) (λ c. search needs) (λ c. search needs) (λ c. search needs) (λ c. search needs) (λ c. search needs) (λ c. search needs)
+    -- coming-requires
+    (λ c κs. tt)
+    -- bits-in-requires
+    (λ c κs. rw (c .coming .ensures) (omega (arith, perByte-le (c .before .args .w))))
+    -- cast-result
+    (λ c. rw (c .bits-in .ensures, c .before .coming .ensures) (omega (arith, below-byte (c .before .before .args .w) (c .before .before .args .k))))
+    -- shr-result
+    (λ c. rw (c .bits-in .ensures, c .before .coming .ensures) (omega (arith, below-byte (c .before .before .args .w) (c .before .before .args .k))))
+    -- values-requires
+    (λ c κs. tt)
+    -- rem-result
+    (λ c. rw (c .values .ensures) (pow-pos (wiresOf (c .before .before .before .args .w))))
     -- returns
-    (λ c. rw (c .before .enum-told .given .1, one-mul))
-    -- returns-2
-    (λ c. rw (c .before .enum-told2 .given .1))
-    -- returns-3
-    (λ c. rw (c .before .enum-told3 .given .1)))
+    (λ c. rw (c .values .ensures, c .before .bits-in .ensures, c .before .before .coming .ensures)))

@@ -11,19 +11,21 @@ pub wait-of-spec : {M : Type 1} → statement M
 wait-of-spec =
     tie.close
     (tie.spec
-    -- wait-row-requires, cast-t7
-    (λ c κs. tt) (λ c. search needs)
+    -- wait-row-requires, cast-stated, stated-requires
+    (λ c κs. tt) (λ c. search needs) (λ c κs. tt)
     -- returns
-    (λ c. wait-configured (c .before .before .args .k) (c .before .before .args .w) (c .before .before .args .cr2) (sym (c .before .wait-row .ensures) ∙ c .if1 .taken))
-    -- mul-t9
+    (λ c. c .stated .ensures ∙ wait-configured (c .before .before .before .args .k) (c .before .before .before .args .w) (c .before .before .before .args .cr2) (sym (c .before .before .wait-row .ensures) ∙ c .before .if1 .taken))
+    -- mul-stated
     (λ c. omega (arith, c .before .wait-row .ensures, row-le (c .before .before .args .k)))
     -- column-requires
     (λ c κs. tt)
-    -- add-t11
+    -- add-stated
     (λ c. omega (arith, c .before .before .wait-row .ensures, row-le (c .before .before .before .args .k), c .column .ensures, column-lt (c .before .before .before .args .w)))
-    -- mul-t12
+    -- mul-stated-2
     (λ c. omega (arith, c .before .before .wait-row .ensures, row-le (c .before .before .before .args .k), c .column .ensures, column-lt (c .before .before .before .args .w)))
-    -- array-read-t15
+    -- array-read-stated
     (λ c. omega (arith, c .before .before .wait-row .ensures, row-le (c .before .before .before .args .k), c .column .ensures, column-lt (c .before .before .before .args .w)))
+    -- stated-requires-2
+    (λ c κs. tt)
     -- returns-2
-    (λ c. let e = c .before .before .wait-row .ensures in rw (e, c .column .ensures) (wait-fixed (c .before .before .before .args .k) (c .before .before .before .args .w) (c .before .before .before .args .cr2) (λ h. c .before .if1 .left (e ∙ h)))))
+    (λ c. let e = c .before .before .before .wait-row .ensures in rw (c .stated2 .ensures, e, c .before .column .ensures) (wait-fixed (c .before .before .before .before .args .k) (c .before .before .before .before .args .w) (c .before .before .before .before .args .cr2) (λ h. c .before .before .if1 .left (e ∙ h)))))

@@ -13,9 +13,11 @@ size-of-spec =
     (tie.spec
     -- number-of-requires
     (λ c κs. tt)
-    -- mul-t4
+    -- mul-stated
     (λ c. omega (arith, c .number-of .ensures, sized (c .before .args .r) .inside))
-    -- array-read-t7
+    -- array-read-stated
     (λ c. omega (arith, c .number-of .ensures, sized (c .before .args .r) .inside))
+    -- stated-requires
+    (λ c κs. tt)
     -- returns
-    (λ c. rw (c .number-of .ensures) (ap bytes (sized (c .before .args .r) .size))))
+    (λ c. rw (c .stated .ensures, c .before .number-of .ensures) (ap bytes (sized (c .before .before .args .r) .size))))

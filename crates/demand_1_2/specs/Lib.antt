@@ -1,0 +1,15 @@
+pub mod ExactOrder
+pub mod Refused
+pub mod Counted
+pub mod Declined
+pub mod Driven
+pub mod Kept
+pub mod Sent
+pub mod Bytewise
+pub mod Planned
+pub mod Heard
+pub mod Built
+pub mod Meant
+pub mod Answered
+pub mod Understood
+pub mod Examples

@@ -1,0 +1,20 @@
+-- `state_check::valid` meets its contract: the family decides.
+-- Assumes nothing.
+use borrow.Author.Needs.{needs}
+use Rattle.state_check.proofs.valid.Statement.{statement}
+use Rattle.state_check.proofs.valid.Tie as tie
+use mathlib.Core.Path.{sym, ap, _∙_}
+use Rattle.parts.specs.Parts.{familyOf}
+use Rattle.state_check.specs.States.{validOf}
+
+pub valid-spec : {M : Type 1} → statement M
+unfolding validOf
+valid-spec =
+    tie.close
+    (tie.spec
+    -- of-requires, family-requires, enum-told, mram-valid-requires, enum-told-2, psram-valid-requires
+    (λ c κs. tt) (λ c κs. tt) (λ c. search needs) (λ c κs. tt) (λ c. search needs) (λ c κs. tt)
+    -- returns
+    (λ c. rw (sym (c .before .before .before .family .ensures ∙ ap familyOf (c .before .before .before .before .of .ensures)) ∙ c .before .enum-told .given .1, c .mram-valid .ensures, c .before .before .before .before .of .ensures))
+    -- returns-2
+    (λ c. rw (sym (c .before .before .before .family .ensures ∙ ap familyOf (c .before .before .before .before .of .ensures)) ∙ c .before .enum-told2 .given .1, c .psram-valid .ensures)))
