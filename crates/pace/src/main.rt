@@ -59,13 +59,18 @@ fn number_at(i: usize, word: &mut [u8], most: u32) -> u32 {
     number.value
 }
 
+// The clocks of the longest run.
+fn most_clocks() -> u32 {
+    Clocks::longest().in_clocks() as u32
+}
+
 fn hear(word: &mut [u8]) -> Asked {
     Asked {
         what: what_at(1, word),
         wires: (number_at(2, word, 4) % 256) as u8,
-        clocks: number_at(3, word, 65535),
+        clocks: number_at(3, word, most_clocks()),
         repeats: number_at(4, word, 1000000),
-        n: (number_at(5, word, 21) % 256) as u8,
+        n: (number_at(5, word, PartM::MOST as u32) % 256) as u8,
     }
 }
 
@@ -86,7 +91,7 @@ fn is_whole(a: Asked) -> bool {
     if a.what == 3 {
         return true;
     }
-    10 <= a.n
+    PartM::LEAST <= a.n
 }
 
 // A byte as it is, or as a level that the device drives on so many wires.
@@ -288,7 +293,7 @@ fn clock(a: Asked, memory: &mut [u8], samples: &mut [u8], output: &mut [u8]) {
 // The same with so much memory as the chip has.
 fn clock_sized(a: Asked, memory: &mut [u8], samples: &mut [u8], output: &mut [u8]) {
     let n = a.n;
-    if 21 < n {
+    if PartM::MOST < n {
         return;
     }
     let size = memory_size(n).in_bytes();

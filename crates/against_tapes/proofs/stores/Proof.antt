@@ -10,8 +10,8 @@ pub stores-spec : {M : Type 1} → statement M
 stores-spec =
     tie.close
     (tie.spec
-    -- returns, returns-2
-    (λ c. tt) (λ c. tt)
+    -- in-bytes-requires, in-bytes-requires-2, returns, returns-2
+    (λ c κs. tt) (λ c κs. tt) (λ c. tt) (λ c. tt)
     -- slice-aggregate-digest-column
     (λ c. sym (length-take-le _ _ (c .before .before .before .if1 .left)))
     -- digest-column-requires

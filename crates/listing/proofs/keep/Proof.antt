@@ -10,6 +10,8 @@ pub keep-spec : {M : Type 1} → statement M
 keep-spec =
     tie.close
     (tie.spec
+    -- in-bytes-requires
+    (λ c κs. tt)
     -- slice-aggregate-put-all
     (λ c. sym (length-take-le _ _ (c .before .before .if1 .taken)))
     -- put-all-requires, same-length, returns, returns-2

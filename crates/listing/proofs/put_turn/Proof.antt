@@ -10,8 +10,8 @@ pub put-turn-spec : {M : Type 1} → statement M
 put-turn-spec =
     tie.close
     (tie.spec
-    -- returns, returns-2, entry-at-requires, put-head-requires
-    (λ c. tt) (λ c. tt) (λ c κs. tt) (λ c κs. tt)
+    -- in-bytes-requires, in-bytes-requires-2, returns, returns-2, entry-at-requires, put-head-requires
+    (λ c κs. tt) (λ c κs. tt) (λ c. tt) (λ c. tt) (λ c κs. tt) (λ c κs. tt)
     -- slice-aggregate-put-played
     (λ c. sym (length-take-le _ _ (c .before .before .before .before .before .before .before .before .if1 .left)))
     -- slice-aggregate-put-played-2
