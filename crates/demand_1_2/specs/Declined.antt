@@ -2,11 +2,11 @@
 -- the write mode says; every clock drives 00h, the room past the clocks is kept, and the five counts add up to the clocks. So it is for every list of samples,
 -- and in particular for every cut of every longer one.
 -- Assumes nothing.
-use mathlib.Core.Path.{_≡_, refl, ap, _∙_}
+use mathlib.Core.Path.{_≡_, refl, ap}
 use Prim.Native.Nat.{ℕ}
 use mathlib.Core.Bool.{true, false, cond}
-use mathlib.Core.List.{List, _++_}
-use lib.ListN.{length, replicate, length-append, replicate-append-replicate}
+use mathlib.Core.List.{List}
+use lib.ListN.{length, replicate}
 use Rattle.basis.specs.Truth.{untrue}
 use Rattle.kinds.specs.declared.Kind.{Kind}
 use Rattle.counts.specs.Counts.{total}
@@ -20,10 +20,10 @@ use Rattle.changes.specs.Latches.{afterBurst}
 use Rattle.record.specs.Fields.{latchTo, armTo}
 use Rattle.changes.specs.Changes.{settledIn, settledOf}
 use Rattle.record.specs.Answers.{classOf, declinedIn, isDone, refuses, declines, isProtected}
-use Rattle.paper.specs.Reading.{many, Reading, readingOf}
+use Rattle.paper.specs.Reading.{many, readingOf}
 use Rattle.paper.specs.Storing.{Lent}
 use Rattle.paper.specs.Answers.{judge}
-use Rattle.paper.specs.Transaction.{World, factsOf, undriven, around, outputOf, over, clockedOf, transactOf}
+use Rattle.paper.specs.Transaction.{World, factsOf, outputOf, over, clockedOf, transactOf}
 use Rattle.paper.specs.CallLaws.{not-refused}
 use Rattle.paper.specs.ReadingLaws.{none-driven}
 use Rattle.demand_1_2.specs.Counted.{counts-add-up}

@@ -5,13 +5,13 @@
 -- Assumes nothing.
 use mathlib.Core.Path.{_≡_, refl, ap, _∙_, sym, subst}
 use mathlib.Core.Bool.{Bool, true, false, cond, not, _&&_}
-use mathlib.Core.List.{List, [], _∷_, _++_}
-use Prim.Native.Nat.{ℕ, _+_, _-_, _*_, _/_, _%_, _≤_, _<_}
+use mathlib.Core.List.{List, [], _∷_}
+use Prim.Native.Nat.{ℕ, _+_, _-_, _/_, _%_}
 use native.Mathlib.Omega.{arith}
-use lib.Dec.{eqb, ltb, leb}
+use lib.Dec.{eqb, ltb}
 use lib.ListN.{length, getD, set, drop, length-set, length-append, length-drop, length-replicate}
 use borrow.Author.Tests.{lt-ltb, ltb-true, leb-true, eqb-true, eq-eqb}
-use Rattle.basis.specs.Truth.{both-true, untrue, not-untrue, cond-same}
+use Rattle.basis.specs.Truth.{both-true, untrue, not-untrue}
 use Rattle.basis.specs.Rows.{eachRow, look-passes}
 use Rattle.units.specs.declared.Bytes.{Bytes}
 use Rattle.units.specs.declared.Wires.{Wires}
@@ -21,7 +21,7 @@ use Rattle.parts.specs.declared.Family.{Family}
 use Rattle.parts.specs.declared.Family.the-variants.{Mram, Psram}
 use Rattle.parts.specs.declared.Part.{Part}
 use Rattle.parts.specs.declared.Part.the-variants.{M, P}
-use Rattle.parts.specs.Parts.{partOf, familyOf, knownPart, offered, areaOf}
+use Rattle.parts.specs.Parts.{partOf, familyOf}
 use Rattle.kinds.specs.declared.Control.{Control}
 use Rattle.kinds.specs.declared.Control.the-variants.{NoOperation, WriteEnable, WriteDisable, ToOne, ToTwo, ToFour, Sleep, Wake, ResetEnable, Reset, Toggle}
 use Rattle.kinds.specs.declared.Register.{Register}
@@ -33,7 +33,6 @@ use Rattle.kinds.specs.declared.Kind.the-variants.{Unknown, Plain, Read, Write}
 use Rattle.opcodes.specs.Opcodes.{Meaning, rowsOf, noMeaning, meaningOf, inModes, kindOf}
 use Rattle.commands.specs.declared.plans.Body.{Body}
 use Rattle.commands.specs.declared.plans.Body.the-variants.{Nothing, FixedRead, AnyRead, FixedWrite, AnyWrite}
-use Rattle.record.specs.declared.answers.Answer.{Answer}
 use Rattle.record.specs.declared.devices.Registers.{Registers}
 use Rattle.record.specs.declared.devices.Identities.{Identities}
 use Rattle.record.specs.declared.devices.Make.{Make}
@@ -49,16 +48,15 @@ use Rattle.record.specs.Shows.{withoutLatch}
 use Rattle.changes.specs.Latches.{writeMode, afterBurst}
 use Rattle.changes.specs.Changes.{controlled, writtenTo, burstDone, effectOf, settledOf}
 use Rattle.state_check.specs.Values.{statusAllowed, cr3Allowed, cr4Allowed, configurationsAllowed, modeRegisterAllowed, reservedOf}
-use Rattle.state_check.specs.States.{modeAllowed, zeros, mramRegisters, mramVolatile, mramIdentity, psramRegisters, psramVolatile, psramIdentity, mramValid, psramValid, validFor, validOf}
-use Rattle.places.specs.Addresses.{memorySize}
+use Rattle.state_check.specs.States.{modeAllowed, zeros, mramRegisters, mramVolatile, mramIdentity, psramRegisters, psramVolatile, psramIdentity, validFor, validOf}
 use Rattle.paper.specs.InForce.{commandClocks}
 use Rattle.paper.specs.Reading.{first, many, full, kindRead, Reading, readingOf}
 use Rattle.paper.specs.Storing.{Lent, intoArea, protectedAt, putAt, storeByte, takeAll}
 use Rattle.paper.specs.Table.{by-row}
 use Rattle.paper.specs.Answers.{Facts, reservedFor, tableFor, judge}
 use Rattle.paper.specs.Transaction.{World, sizedFor, roomFor, sentBytes, bodyIn, factsOf, storedBy, outputOf, over, memoryAfter, poweredUp, clockedOf, transactOf, powerOf}
-use Rattle.paper.specs.CallLaws.{Untouched, Accepted, accepted, not-refused}
-use Rattle.demand_1_2.specs.Refused.{refused, power-refused}
+use Rattle.paper.specs.CallLaws.{Untouched, accepted, not-refused}
+use Rattle.demand_1_2.specs.Refused.{refused}
 use Rattle.demand_1_2.specs.Driven.{driven-length}
 
 -- ---- the commands of a family

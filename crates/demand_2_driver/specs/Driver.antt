@@ -8,19 +8,17 @@ use mathlib.Core.List.{List}
 use Prim.Native.Nat.{ℕ, _≤_}
 use lib.ListN.{length}
 use Rattle.units.specs.declared.Clocks.{Clocks}
-use Rattle.units.specs.declared.Bytes.{Bytes}
 use Rattle.units.specs.Units.{clocks, wiresOf}
 use Rattle.commands.specs.Plans.{reads}
-use Rattle.record.specs.declared.answers.Answer.{Answer}
 use Rattle.record.specs.declared.answers.Answer.the-variants.{Done}
 use Rattle.record.specs.declared.devices.Device.{Device}
 use Rattle.record.specs.declared.devices.Outcome.{Outcome}
-use Rattle.contract_words.specs.Words.{lends, worldOf}
+use Rattle.contract_words.specs.Words.{worldOf}
 use Rattle.paper.specs.Reading.{first, many}
 use Rattle.paper.specs.Storing.{Lent}
 use Rattle.paper.specs.Transaction.{World, over, transactOf}
 use Rattle.paper.specs.Building as paper
-use Rattle.paper.specs.Building.{Told, kindAsked, builtOf, buildOf}
+use Rattle.paper.specs.Building.{Told, buildOf}
 use Rattle.paper.specs.Collecting.{collectOf}
 use Rattle.host_order.specs.declared.Order.{Order}
 use Rattle.host_order.specs.Orders.{orderAs}
