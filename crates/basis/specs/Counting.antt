@@ -47,9 +47,3 @@ module _ (f : ℕ → Bool) where
   each-passes (suc m) e i h =
       let l = last-passes m (howMany f m) (f m) (how-many-le m) e in
       earlier-or-last m i h (l .1) (each-passes m (l .0) i) (ltb i m) refl
-
-  -- tests that agree count alike
-  pub same-count : (g : ℕ → Bool) → ((i : ℕ) → f i ≡ g i) → (m : ℕ) → howMany f m ≡ howMany g m
-  unfolding howMany
-  same-count g e zero = refl
-  same-count g e (suc m) = rw (same-count g e m, e m)

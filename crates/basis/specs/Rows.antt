@@ -59,15 +59,15 @@ abbrev pub eachRow : {A : Type 0} → (A → Bool) → List (ℕ × A) → Bool
 eachRow q [] = true
 eachRow q (r ∷ rs) = q (r .1) && eachRow q rs
 
-look-step : {A : Type 0} (q : A → Bool) (x y : A) (b : Bool) → q x ≡ true → q y ≡ true → q (cond b x y) ≡ true
-look-step q x y true e f = e
-look-step q x y false e f = f
+pub either-passes : {A : Type 0} (q : A → Bool) (x y : A) (b : Bool) → q x ≡ true → q y ≡ true → q (cond b x y) ≡ true
+either-passes q x y true e f = e
+either-passes q x y false e f = f
 
 pub look-passes : {A : Type 0} (q : A → Bool) (none : A) (rs : List (ℕ × A)) (x : ℕ) → eachRow q rs ≡ true → q none ≡ true → q (look none rs x) ≡ true
 look-passes q none [] x e d = d
 look-passes q none (r ∷ rs) x e d =
     let b = both-true (q (r .1)) (eachRow q rs) e in
-    look-step q (r .1) (look none rs x) (eqb x (r .0)) (b .0) (look-passes q none rs x (b .1) d)
+    either-passes q (r .1) (look none rs x) (eqb x (r .0)) (b .0) (look-passes q none rs x (b .1) d)
 
 away-step : (x y k : ℕ) (b rest : Bool) → (x ≡ k → ⊥) → (T rest → x ≡ y → ⊥) → eqb y k ≡ b → T (b || rest) → x ≡ y → ⊥
 away-step x y k true rest n m p t e = n (e ∙ eqb→eq y k (rw p tt))

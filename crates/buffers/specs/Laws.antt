@@ -5,10 +5,12 @@ use Prim.Native.Nat.{ℕ, suc, _+_, _<_, _≤_}
 use native.Mathlib.Nat.{add-zero, zero-add}
 use native.Mathlib.Numerals.{add-one}
 use native.Mathlib.Omega.{arith}
+use mathlib.Core.Bool.{Bool, true, false, cond}
 use mathlib.Core.List.{List, [], _∷_, _++_}
+use lib.Dec.{ltb}
 use lib.ListN.{length, getD, drop, set, length-set}
 use lib.Seq.{drop-cons, sets, sets-eq}
-use borrow.Author.Tests.{lt-ltb}
+use borrow.Author.Tests.{lt-ltb, le-ltb, ltb-false}
 use Rattle.buffers.specs.Page.{Page, page, putOf, putsOf}
 
 -- an element of a list, and what follows it
@@ -41,6 +43,32 @@ module _ {xs : List ℕ} {before : Page} {ys : List ℕ} {p : Page} (f : Left xs
   pub all-put : ys ≡ [] → p ≡ putsOf xs before
   unfolding putsOf
   all-put e = rw e at (f .left)
+
+-- where there is no room, nothing is put
+full-kept : (xs : List ℕ) (p : Page) → length (p .buffer) ≤ p .at → putsOf xs p ≡ p
+unfolding putsOf putOf
+full-kept [] p h = refl
+full-kept (x ∷ xs) p h = rw (le-ltb (p .at) (length (p .buffer)) h) (full-kept xs p h)
+
+-- each byte takes room, or there is none left
+put-nearer : (x : ℕ) (p : Page) (n : ℕ) → length (p .buffer) ≤ p .at + suc n → length (putOf x p .buffer) ≤ putOf x p .at + n
+unfolding putOf
+put-nearer x p n h = by (ltb (p .at) (length (p .buffer))) refl
+  where
+    by : (b : Bool) → ltb (p .at) (length (p .buffer)) ≡ b
+        → length (cond b (page (p .at + 1) (set (p .buffer) (p .at) x)) p .buffer) ≤ cond b (page (p .at + 1) (set (p .buffer) (p .at) x)) p .at + n
+    by true e = let l = length-set (p .buffer) (p .at) x in omega arith
+    by false e = let l = ltb-false (p .at) (length (p .buffer)) e in omega arith
+
+-- as many bytes as a buffer has fill it, wherever they begin
+fills : (xs : List ℕ) (p : Page) → length (p .buffer) ≤ p .at + length xs → length (putsOf xs p .buffer) ≤ putsOf xs p .at
+unfolding putsOf
+fills [] p h = rw add-zero at h
+fills (x ∷ xs) p h = fills xs (putOf x p) (put-nearer x p (length xs) h)
+
+-- so that what comes after them changes nothing
+pub puts-past : (xs ys : List ℕ) (p : Page) → length (p .buffer) ≤ length xs → putsOf (xs ++ ys) p ≡ putsOf xs p
+puts-past xs ys p h = puts-append xs ys p ∙ full-kept ys (putsOf xs p) (fills xs p (omega arith))
 
 -- where there is room for all of them, the place moves on by as many, and they stand one after the other
 puts-sets : (xs : List ℕ) (at : ℕ) (out : List ℕ) → at + length xs ≤ length out → putsOf xs (page at out) ≡ page (at + length xs) (sets out at xs)

@@ -6,13 +6,13 @@
 use mathlib.Core.Path.{_≡_, refl, ap, _∙_, sym, subst}
 use mathlib.Core.Bool.{Bool, true, false, cond, not, _&&_}
 use mathlib.Core.List.{List, [], _∷_}
-use Prim.Native.Nat.{ℕ, _+_, _-_, _/_, _%_}
+use Prim.Native.Nat.{ℕ, _+_, _/_, _%_}
 use native.Mathlib.Omega.{arith}
 use lib.Dec.{eqb, ltb}
 use lib.ListN.{length, getD, set, drop, length-set, length-append, length-drop, length-replicate}
 use borrow.Author.Tests.{lt-ltb, ltb-true, leb-true, eqb-true, eq-eqb}
 use Rattle.basis.specs.Truth.{both-true, untrue, not-untrue}
-use Rattle.basis.specs.Rows.{eachRow, look-passes}
+use Rattle.basis.specs.Rows.{eachRow, either-passes, look-passes}
 use Rattle.units.specs.declared.Bytes.{Bytes}
 use Rattle.units.specs.declared.Wires.{Wires}
 use Rattle.units.specs.Units.{bytes, atMost, longest}
@@ -121,20 +121,17 @@ has-rows : (f : Family) → eachRow (λ (m : Meaning). has f (m .kind)) (rowsOf 
 has-rows Mram = refl
 has-rows Psram = refl
 
-has-if : (f : Family) (b : Bool) (k : Kind) → has f k ≡ true → has f (cond b k Unknown) ≡ true
-has-if f true k e = e
-has-if f false k e = refl
-
 has-kind : (f : Family) (w : Wires) (opcode : ℕ) → has f (kindOf f w opcode) ≡ true
 unfolding meaningOf
 has-kind f w opcode =
-    has-if f (inModes (meaningOf f opcode .modes) w) _ (look-passes (λ (m : Meaning). has f (m .kind)) noMeaning (rowsOf f) opcode (has-rows f) refl)
+    either-passes (has f) (meaningOf f opcode .kind) Unknown (inModes (meaningOf f opcode .modes) w)
+    (look-passes (λ (m : Meaning). has f (m .kind)) noMeaning (rowsOf f) opcode (has-rows f) refl) refl
 
 has-read : (s : Setting) (xs : List ℕ) → has (familyOf (s .part)) (kindRead s xs) ≡ true
 unfolding kindRead
 has-read s xs =
     let k = kindOf (familyOf (s .part)) (s .wires) (gather (s .wires) xs) in
-    has-if (familyOf (s .part)) (full (commandClocks s) xs) k (has-kind (familyOf (s .part)) (s .wires) (gather (s .wires) xs))
+    either-passes (has (familyOf (s .part))) k Unknown (full (commandClocks s) xs) (has-kind (familyOf (s .part)) (s .wires) (gather (s .wires) xs)) refl
 
 -- ---- a valid record of each family, by the fields that its check looks at
 record OfMram (p : Part) (status cr1 cr2 cr3 cr4 mr0 mode : ℕ) (toggle : Bool) (device : List ℕ) : Type 0 where

@@ -52,17 +52,12 @@ module _ (o : Order) (out : List ℕ) {v : Answer} (e : v ≡ building.refusalOf
   unfolding building.refusalOf buildOf
   build-refused n = told-refused clocks v xs out n ∙ ap (λ (u : Answer). told clocks u xs out) e
 
-  -- a row that does not hold tells that the clocks are no more than a transaction has, and that there is room
-  module _ (d : isDone v ≡ true) where
-    checked-room : (fewer longest (many xs) ≡ false) × (fewer (many out) (many xs) ≡ false)
-    unfolding building.refusalOf
-    checked-room = neither (fewer longest (many xs)) _ (unrefused-when (refusalsOf o (kindAsked o) out) (ap isDone (sym e) ∙ d) .noRoom)
-
-    pub build-few : length xs ≤ 65535
-    build-few = ltb-false 65535 (length xs) (checked-room .0)
-
-    build-room : length xs ≤ length out
-    build-room = ltb-false (length out) (length xs) (checked-room .1)
+  -- a row that does not hold tells that there is room
+  build-room : isDone v ≡ true → length xs ≤ length out
+  unfolding building.refusalOf
+  build-room d =
+      ltb-false (length out) (length xs)
+      (neither (fewer longest (many xs)) _ (unrefused-when (refusalsOf o (kindAsked o) out) (ap isDone (sym e) ∙ d) .noRoom) .1)
 
   pub build-done : {n : Clocks} {out′ : List ℕ} → isDone v ≡ true → page (n .0) out′ ≡ putsOf xs (page 0 out)
       → record { answer = v; number = n; buffer = out′ } ≡ buildOf o out

@@ -101,10 +101,6 @@ module _ (o : Order) (k : Kind) where
         one-mul,
       ) (omega arith)
 
-  -- there are more clocks than bytes of data
-  pub data-few : length (builtOf o k) ≤ 65535 → size .0 ≤ 65535
-  data-few h = omega (arith, built-length, bytes-le v (size .0))
-
   -- so much data is too long by itself
   pub data-over : {n : Bytes} → n ≡ size → fewerBytes (bytes 65535) n ≡ true → fewer longest (many (builtOf o k)) ≡ true
   data-over e t =

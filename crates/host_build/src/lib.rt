@@ -1,11 +1,10 @@
 // A command as samples, and what of it is refused: the rows of the host's table, and the phases one after the other.
 ghost use mathlib.Core.Path.{_≡_};
 ghost use mathlib.Core.Bool.{_||_};
-ghost use Prim.Native.Nat.{_≤_};
 ghost use Rattle.units.specs.Units.{fewer, longest};
 ghost use Rattle.buffers.specs.Page.{page, putsOf};
 ghost use Rattle.paper.specs.Reading.{many};
-ghost use Rattle.paper.specs.Building.{manyBytes, bodyAsked, dataSent, builtOf};
+ghost use Rattle.paper.specs.Building.{dataSent, builtOf};
 ghost use Rattle.host_order.specs.Orders.{orderAs};
 ghost use Rattle.host_build.specs.Sizes.{restOf, bytesSent, frontOf, refusalOf};
 use commands::plans::Body;
@@ -40,7 +39,6 @@ const MOST_BYTES: usize = 65535;
 
 // The data: silent clocks for a read, the bytes of a write.
 fn put_data(o: Order, b: Body, w: Wires, written: &[u8], samples: &mut [u8], at: Clocks) -> Clocks
-    requires { ⌜ bytesSent b (o .wanted) (manyBytes (now written)) .0 ≤ 65535 ⌝ }
     ensures { λ r. ⌜ page (r .0) (now (samples .exit)) ≡ putsOf (dataSent b w (orderAs o (now (written .entry)))) (page (at .0) (now (samples .entry))) ⌝ }
 {
     let wanted = o.wanted;
@@ -55,7 +53,6 @@ fn put_data(o: Order, b: Body, w: Wires, written: &[u8], samples: &mut [u8], at:
 
 // The wait and the data.
 fn put_rest(o: Order, k: Kind, w: Wires, written: &[u8], samples: &mut [u8], at: Clocks) -> Clocks
-    requires { ⌜ bytesSent (bodyAsked (orderAs o (now written)) k) (o .wanted) (manyBytes (now written)) .0 ≤ 65535 ⌝ }
     ensures { λ r. ⌜ page (r .0) (now (samples .exit)) ≡ putsOf (restOf (orderAs o (now (written .entry))) k w) (page (at .0) (now (samples .entry))) ⌝ }
 {
     let c = wait_of(k, w, o.cr2);
@@ -64,10 +61,8 @@ fn put_rest(o: Order, k: Kind, w: Wires, written: &[u8], samples: &mut [u8], at:
     put_data(o, b, later_wires(k, w), written, samples, to)
 }
 
-// Command, address, wait and data, from the front of the buffer. Whoever asks has refused more clocks than a transaction
-// has.
+// Command, address, wait and data, from the front of the buffer.
 pub fn put_built(o: Order, k: Kind, written: &[u8], samples: &mut [u8]) -> Clocks
-    requires { ⌜ many (builtOf (orderAs o (now written)) k) .0 ≤ 65535 ⌝ }
     ensures { λ r. ⌜ page (r .0) (now (samples .exit)) ≡ putsOf (builtOf (orderAs o (now (written .entry))) k) (page 0 (now (samples .entry))) ⌝ }
 {
     let w = mode_wires(o.mode);

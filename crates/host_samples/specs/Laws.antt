@@ -1,20 +1,23 @@
 -- Laws of sending: what a clock carries, and what is left after it.
 -- Assumes nothing.
-use mathlib.Core.Path.{_≡_, sym, _∙_}
-use Prim.Native.Nat.{ℕ, suc, _+_, _*_, _/_, _^_, _<_, _≤_}
+use mathlib.Core.Path.{_≡_, refl, sym, ap, _∙_}
+use Prim.Native.Nat.{ℕ, suc, _+_, _-_, _*_, _/_, _^_, _<_, _≤_}
 use native.Mathlib.Nat.{div-eq-of-lt, zero-mod, lt-of-lt-of-le}
 use native.Mathlib.Omega.{arith}
-use mathlib.Core.Bool.{Bool, true, false}
+use mathlib.Core.Bool.{Bool, true, false, cond}
 use mathlib.Core.List.{List, [], _∷_, _++_}
-use lib.ListN.{length, getD, drop, drop-of-length-le}
+use lib.ListN.{length, getD, drop, replicate, drop-of-length-le, length-replicate, replicate-append-replicate}
 use lib.Pow.{pow-mono}
-use borrow.Author.Tests.{leb-true, leb-false}
+use borrow.Author.Tests.{ltb-true, leb-true, leb-false}
 use Rattle.units.specs.declared.Clocks.{Clocks}
+use Rattle.units.specs.declared.Bytes.{Bytes}
 use Rattle.units.specs.declared.Wires.{Wires}
 use Rattle.units.specs.declared.Wires.the-variants.{One, Two, Four}
-use Rattle.units.specs.Units.{clocks, atMost, less, wiresOf, perByte}
+use Rattle.units.specs.Units.{clocks, atMost, less, fewerBytes, wiresOf, perByte, clocksOf, wholeOf, clocksWithin}
+use Rattle.units.specs.Laws.{lt-whole}
 use Rattle.wires.specs.Bits.{above, spelled}
-use Rattle.buffers.specs.Laws.{drop-one}
+use Rattle.buffers.specs.Page.{page, putsOf}
+use Rattle.buffers.specs.Laws.{drop-one, puts-past}
 use Rattle.paper.specs.Building.{spreadAll, silent}
 
 -- ---- the bits of a clock
@@ -63,3 +66,20 @@ module _ (w : Wires) (bs : List ℕ) (i : ℕ) where
   pub written-none : length bs ≤ i → spreadAll w (drop i bs) ≡ []
   unfolding spreadAll
   written-none h = rw (drop-of-length-le bs h)
+
+-- ---- no more silent clocks than the buffer has samples
+pub wanted-within : (w : Wires) (b : Bytes) (at : ℕ) (out : List ℕ)
+    → putsOf (silent (clocksWithin w b (clocks (length out)))) (page at out) ≡ putsOf (silent (clocksOf w b)) (page at out)
+unfolding clocksWithin
+wanted-within w b at out = by (fewerBytes (wholeOf w (clocks (length out))) b) refl
+  where
+    by : (t : Bool) → fewerBytes (wholeOf w (clocks (length out))) b ≡ t
+        → putsOf (silent (cond t (clocks (length out)) (clocksOf w b))) (page at out) ≡ putsOf (silent (clocksOf w b)) (page at out)
+    by true e =
+        let n = length out in
+        let m = clocksOf w b .0 in
+        let h : n < m = lt-whole w n (b .0) (ltb-true _ _ e) in
+        let s : n + (m - n) ≡ m = omega arith in
+        sym (puts-past (replicate n 0) (replicate (m - n) 0) (page at out) (rw (length-replicate {A = ℕ} n 0) (omega arith)))
+        ∙ ap (λ (zs : List ℕ). putsOf zs (page at out)) (replicate-append-replicate n (m - n) 0 ∙ rw s)
+    by false e = refl

@@ -2,7 +2,6 @@
 // each clock, so a place in the buffer is the number of clocks before it. Samples are put at a place, and the place
 // behind them comes back.
 ghost use mathlib.Core.Path.{_≡_};
-ghost use Prim.Native.Nat.{_≤_};
 ghost use Rattle.units.specs.Units.{clocksOf, byteClocks};
 ghost use Rattle.wires.specs.Bits.{above, spread};
 ghost use Rattle.buffers.specs.Page.{page, putOf, putsOf};
@@ -13,7 +12,7 @@ use units::Clocks;
 use units::Wires;
 use units::bits_in;
 use units::byte_clocks;
-use units::bytes_to_clocks;
+use units::clocks_within;
 
 // The bits of a number. Every clock carries one at least, so no number is spread over more clocks.
 const NUMBER: usize = 32;
@@ -90,11 +89,11 @@ pub fn put_written(samples: &mut [u8], at: Clocks, w: Wires, written: &[u8]) -> 
     to
 }
 
-// The clocks in which the device is to send so many bytes. Whoever asks has made sure that they are no more than a
-// transaction carries.
+// The clocks in which the device is to send so many bytes. More of them than the buffer has samples would fill it just
+// the same, so that they need not be counted.
 pub fn put_wanted(samples: &mut [u8], at: Clocks, w: Wires, wanted: Bytes) -> Clocks
-    requires { ⌜ wanted .0 ≤ 65535 ⌝ }
     ensures { λ r. ⌜ page (r .0) (now (samples .exit)) ≡ putsOf (silent (clocksOf w wanted)) (page (at .0) (now (samples .entry))) ⌝ }
 {
-    put_silent(samples, at, bytes_to_clocks(wanted, w))
+    let room = Clocks::of_samples(samples);
+    put_silent(samples, at, clocks_within(wanted, w, room))
 }

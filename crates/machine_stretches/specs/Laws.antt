@@ -14,7 +14,7 @@ use borrow.Rule.Slice.PartMut.{midOf, putMid, mid-len}
 use Rattle.units.specs.declared.Clocks.{Clocks}
 use Rattle.units.specs.declared.Bytes.{Bytes}
 use Rattle.units.specs.declared.Wires.{Wires}
-use Rattle.units.specs.Units.{clocks, less, fewer, fewerBytes, clocksOf, wholeOf}
+use Rattle.units.specs.Units.{clocks, less, fewer, fewerBytes, clocksOf, clocksWithin, wholeOf}
 use Rattle.units.specs.Laws.{lt-whole}
 use Rattle.kinds.specs.declared.Kind.{Kind}
 use Rattle.commands.specs.declared.plans.Body.{Body}
@@ -38,7 +38,7 @@ use Rattle.machine_end.specs.Finish.{factsIn, outcomeOf, finishOf}
 use Rattle.machine_bridge.specs.Bridge.{facts-read, bridge}
 use Rattle.machine_run.specs.Fed.{Feedable, Fed}
 use Rattle.machine_phases.specs.RunLaws.{run-append, outs-append, outs-length, step-one}
-use Rattle.machine_stretches.specs.Stretches.{reachOf, fixedOf, dataOf, placeOf, upcoming, headOf, dataClocks, Passed, Advancing, Advanced, Going, Come, Ahead}
+use Rattle.machine_stretches.specs.Stretches.{reachOf, dataOf, placeOf, upcoming, headOf, dataClocks, Passed, Advancing, Advanced, Going, Come, Ahead}
 
 -- every clock of a run is counted
 pub run-clocks : (d : Device) (r : Run) (xs : List ℕ) → placeOf (runOf d r xs) ≡ placeOf r + length xs
@@ -300,9 +300,9 @@ come-ahead {d} {m} {a} {m′} {a′} {xs} {out} {o} {p} h k =
     }
 
 -- the data clocks of the plan, off the front of what is left, are the paper's data part
-fixed-first : (w : Wires) (b : Bytes) (all : Clocks) (zs : List ℕ) → length zs ≤ all .0 → take (fixedOf b w all .0) zs ≡ take (clocksOf w b .0) zs
-unfolding fixedOf
-fixed-first w b all zs h = by (fewerBytes (wholeOf w all) b) refl
+within-first : (w : Wires) (b : Bytes) (all : Clocks) (zs : List ℕ) → length zs ≤ all .0 → take (clocksWithin w b all .0) zs ≡ take (clocksOf w b .0) zs
+unfolding clocksWithin
+within-first w b all zs h = by (fewerBytes (wholeOf w all) b) refl
   where
     by : (q : Bool) → fewerBytes (wholeOf w all) b ≡ q → take (cond q all (clocksOf w b) .0) zs ≡ take (clocksOf w b .0) zs
     by true e =
@@ -312,9 +312,9 @@ fixed-first w b all zs h = by (fewerBytes (wholeOf w all) b) refl
 
 data-first : (b : Body) (w : Wires) (all : Clocks) (zs : List ℕ) → length zs ≤ all .0 → take (dataOf b w all .0) zs ≡ dataPart b w zs
 data-first Nothing w all zs h = refl
-data-first (FixedRead b) w all zs h = fixed-first w b all zs h
+data-first (FixedRead b) w all zs h = within-first w b all zs h
 data-first AnyRead w all zs h = take-all (all .0) zs h
-data-first (FixedWrite b) w all zs h = fixed-first w b all zs h
+data-first (FixedWrite b) w all zs h = within-first w b all zs h
 data-first AnyWrite w all zs h = take-all (all .0) zs h
 
 -- and it is the front of what is left

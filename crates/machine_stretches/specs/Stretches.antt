@@ -6,9 +6,8 @@ use mathlib.Core.List.{List, _++_}
 use lib.Dec.{ltb}
 use lib.ListN.{length, take, drop}
 use Rattle.units.specs.declared.Clocks.{Clocks}
-use Rattle.units.specs.declared.Bytes.{Bytes}
 use Rattle.units.specs.declared.Wires.{Wires}
-use Rattle.units.specs.Units.{clocks, clocksOf, wholeOf, fewerBytes}
+use Rattle.units.specs.Units.{clocks, clocksWithin}
 use Rattle.commands.specs.declared.plans.Body.{Body}
 use Rattle.commands.specs.declared.plans.Body.the-variants.{Nothing, FixedRead, AnyRead, FixedWrite, AnyWrite}
 use Rattle.counts.specs.Counts.{total}
@@ -26,14 +25,11 @@ unfoldable pub reachOf : Clocks → Clocks → ℕ → ℕ
 reachOf from c n = cond (ltb (c .0) (n - from .0)) (from .0 + c .0) n
 
 -- the data clocks among all that there are
-unfoldable pub fixedOf : Bytes → Wires → Clocks → Clocks
-fixedOf b w all = cond (fewerBytes (wholeOf w all) b) all (clocksOf w b)
-
 abbrev pub dataOf : Body → Wires → Clocks → Clocks
 dataOf Nothing w all = clocks 0
-dataOf (FixedRead b) w all = fixedOf b w all
+dataOf (FixedRead b) w all = clocksWithin w b all
 dataOf AnyRead w all = all
-dataOf (FixedWrite b) w all = fixedOf b w all
+dataOf (FixedWrite b) w all = clocksWithin w b all
 dataOf AnyWrite w all = all
 
 -- the place that a transaction has come to: as many clocks as it has counted

@@ -6,14 +6,14 @@ ghost use Rattle.progress.specs.Progress.{beginOf};
 ghost use Rattle.contract_words.specs.Words.{lends, runAs, worldOf};
 ghost use Rattle.paper.specs.Transaction.{clockedOf};
 ghost use Rattle.units.specs.Units.{clocks};
-ghost use Rattle.machine_stretches.specs.Stretches.{reachOf, fixedOf, dataOf, headOf, dataClocks, Passed, Advancing, Advanced, Come, Ahead};
+ghost use Rattle.machine_stretches.specs.Stretches.{reachOf, dataOf, headOf, dataClocks, Passed, Advancing, Advanced, Come, Ahead};
 use commands::plans::Body;
 use progress::Progress;
 use record::Device;
 use record::Outcome;
-use units::Bytes;
 use units::Clocks;
 use units::Wires;
+use units::clocks_within;
 
 // Where so many clocks more come to, or the end of all that there are.
 fn reach(from: Clocks, c: Clocks, all: Clocks) -> Clocks
@@ -26,27 +26,15 @@ fn reach(from: Clocks, c: Clocks, all: Clocks) -> Clocks
     all
 }
 
-// The clocks of a fixed size of data, or all there are where they are fewer.
-fn fixed_clocks(size: Bytes, w: Wires, all: Clocks) -> Clocks
-    requires { ⌜ all .0 ≤ 65535 ⌝ }
-    ensures { λ r. ⌜ r ≡ fixedOf size w all ⌝ }
-{
-    if units::clocks_to_bytes(all, w).fewer(size) {
-        return all;
-    }
-    units::bytes_to_clocks(size, w)
-}
-
 // The data clocks among all that there are.
 fn data_clocks(b: Body, w: Wires, all: Clocks) -> Clocks
-    requires { ⌜ all .0 ≤ 65535 ⌝ }
     ensures { λ r. ⌜ r ≡ dataOf b w all ⌝ }
 {
     match b {
         Body::Nothing => Clocks::none(),
-        Body::FixedRead(size) => fixed_clocks(size, w, all),
+        Body::FixedRead(size) => clocks_within(size, w, all),
         Body::AnyRead => all,
-        Body::FixedWrite(size) => fixed_clocks(size, w, all),
+        Body::FixedWrite(size) => clocks_within(size, w, all),
         Body::AnyWrite => all,
     }
 }

@@ -61,3 +61,9 @@ pub lt-whole : (w : Wires) (t b : ℕ) → t / perByte w < b → t < b * perByte
 lt-whole One t b h = omega arith
 lt-whole Two t b h = omega arith
 lt-whole Four t b h = omega arith
+
+-- bytes that the clocks carry take no more than these
+pub within-le : (w : Wires) (t b : ℕ) → b ≤ t / perByte w → b * perByte w ≤ t
+within-le One t b h = omega arith
+within-le Two t b h = omega arith
+within-le Four t b h = omega arith

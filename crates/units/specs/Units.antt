@@ -1,7 +1,7 @@
 -- Clocks and bytes. Document 01, "Samples", last sentence: the two are never taken for one another. Each is a type of its own here too, and every
 -- way from one to the other names the wires (D64).
 use Prim.Native.Nat.{ℕ, _+_, _-_, _*_, _/_, _%_}
-use mathlib.Core.Bool.{Bool}
+use mathlib.Core.Bool.{Bool, cond}
 use lib.Dec.{ltb, leb, eqb}
 use Rattle.units.specs.declared.Clocks.{Clocks}
 use Rattle.units.specs.declared.Bytes.{Bytes}
@@ -69,6 +69,10 @@ byteClocks w = clocks (perByte w)
 -- clocks to whole bytes
 abbrev pub wholeOf : Wires → Clocks → Bytes
 wholeOf w c = bytes (c .0 / perByte w)
+
+-- bytes to clocks, but no more than there are: all of them where they carry fewer bytes
+unfoldable pub clocksWithin : Wires → Bytes → Clocks → Clocks
+clocksWithin w b all = cond (fewerBytes (wholeOf w all) b) all (clocksOf w b)
 
 -- the clocks past the last whole byte
 abbrev pub unfinishedOf : Wires → Clocks → Clocks

@@ -1,7 +1,7 @@
 // Clocks and bytes, the two quantities of the bench, and the only ways from one to the other.
 //
 // A clock carries as many bits as there are wires in use, so a byte takes eight, four or two clocks.
-// Whoever has clocks and wants bytes, or the other way round, names the wires: the two conversions below
+// Whoever has clocks and wants bytes, or the other way round, names the wires: the conversions below
 // are the only places where a number changes its unit.
 //
 // The numbers inside are private. A quantity comes from a slice, by its length, or from a number that a table,
@@ -10,7 +10,7 @@
 ghost use mathlib.Core.Path.{_≡_};
 ghost use Prim.Native.Nat.{_+_, _≤_, _<_};
 ghost use lib.ListN.{length};
-ghost use Rattle.units.specs.Units.{clocks, bytes, next, nextByte, plus, less, fewer, atMost, fewerBytes, atMostBytes, sameBytes, longest, wiresOf, perByte, clocksOf, wholeOf, unfinishedOf, byteClocks, comingOf, bitsIn};
+ghost use Rattle.units.specs.Units.{clocks, bytes, next, nextByte, plus, less, fewer, atMost, fewerBytes, atMostBytes, sameBytes, longest, wiresOf, perByte, clocksOf, clocksWithin, wholeOf, unfinishedOf, byteClocks, comingOf, bitsIn};
 
 // A number of clocks (D18).
 pub struct Clocks(usize);
@@ -186,6 +186,17 @@ pub fn bytes_to_clocks(b: Bytes, w: Wires) -> Clocks
     ensures { λ r. ⌜ r ≡ clocksOf w b ⌝ }
 {
     Clocks(b.0 * per_byte(w))
+}
+
+// The same for any number of bytes, but no more clocks than there are.
+pub fn clocks_within(b: Bytes, w: Wires, all: Clocks) -> Clocks
+    ensures { λ r. ⌜ r ≡ clocksWithin w b all ⌝ }
+{
+    let rate = per_byte(w);
+    if all.0 / rate < b.0 {
+        return all;
+    }
+    Clocks(b.0 * rate)
 }
 
 // The whole bytes that `c` clocks carry.

@@ -10,16 +10,8 @@ unfolding putsOf
 put-data-spec =
     tie.close
     (tie.spec
-    -- enum-told, enum-told-2
-    (λ c. search needs) (λ c. search needs)
-    -- put-wanted-requires
-    (λ c κs. rw (c .before .enum-told2 .given .1) at (c .before .before .before .before .before .before .pre))
-    -- enum-told-3
-    (λ c. search needs)
-    -- put-wanted-requires-2
-    (λ c κs. rw (c .before .enum-told3 .given .1) at (c .before .before .before .before .before .before .pre))
-    -- enum-told-4, put-written-requires, enum-told-5, put-written-requires-2
-    (λ c. search needs) (λ c κs. tt) (λ c. search needs) (λ c κs. tt)
+    -- enum-told, enum-told-2, put-wanted-requires, enum-told-3, put-wanted-requires-2, enum-told-4, put-written-requires, enum-told-5, put-written-requires-2
+    (λ c. search needs) (λ c. search needs) (λ c κs. tt) (λ c. search needs) (λ c κs. tt) (λ c. search needs) (λ c κs. tt) (λ c. search needs) (λ c κs. tt)
     -- returns
     (λ c. rw (c .enum-told .given .1))
     -- same-length

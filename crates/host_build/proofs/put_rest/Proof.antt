@@ -10,11 +10,7 @@ pub put-rest-spec : {M : Type 1} → statement M
 put-rest-spec =
     tie.close
     (tie.spec
-    -- wait-of-requires, put-silent-requires, body-asked-requires, later-wires-requires
-    (λ c κs. tt) (λ c κs. tt) (λ c κs. tt) (λ c κs. tt)
-    -- put-data-requires
-    (λ c κs. rw (c .before .before .body-asked .ensures) (c .before .before .before .before .before .before .before .before .before .before .pre))
-    -- same-length
-    (λ c. search needs)
+    -- wait-of-requires, put-silent-requires, body-asked-requires, later-wires-requires, put-data-requires, same-length
+    (λ c κs. tt) (λ c κs. tt) (λ c κs. tt) (λ c κs. tt) (λ c κs. tt) (λ c. search needs)
     -- returns
     (λ c. rest-put (orderAs (c .before .before .before .before .before .before .before .before .before .before .before .before .before .args .o) (c .before .before .before .before .before .before .before .before .before .before .before .before .before .args .written .now)) (c .before .before .before .before .before .before .before .before .before .before .before .before .before .args .k) _ _ (rw (c .before .before .before .before .before .before .before .before .before .before .wait-of .ensures) at (c .before .before .before .before .before .before .before .before .put-silent .ensures)) (rw (c .before .before .before .before .later-wires .ensures, c .before .before .before .before .before .body-asked .ensures) at (c .before .before .put-data .ensures))))

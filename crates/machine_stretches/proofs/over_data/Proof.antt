@@ -13,10 +13,8 @@ over-data-spec =
     (λ c κs. tt)
     -- body-for-requires
     (λ c κs. rw (c .setting .ensures) (c .before .before .before .before .before .pre .advancing .passed .reach))
-    -- wires-for-requires, of-samples-requires
-    (λ c κs. tt) (λ c κs. tt)
-    -- data-clocks-requires
-    (λ c κs. rw (c .of-samples .ensures) (c .before .before .before .before .before .before .before .before .pre .advancing .passed .few))
+    -- wires-for-requires, of-samples-requires, data-clocks-requires
+    (λ c κs. tt) (λ c κs. tt) (λ c κs. tt)
     -- advance-requires
     (λ c κs. c .before .before .before .before .before .before .before .before .before .before .before .before .pre .advancing)
     -- same-length, same-length-2, same-length-3
