@@ -13,12 +13,26 @@ use crate::wires::{clocks_for_bits, spread};
 pub struct Plan {
     pub address: Option<u32>,
     pub bytes: Option<usize>,
+    /// The bytes of a register write.
+    pub values: Option<Vec<u8>>,
     /// Up to this many clocks; 0 means a short one.
     pub long_clocks: usize,
     /// End with a byte whose clocks do not all come.
     pub loose: bool,
     /// Write a value that the register does not allow.
     pub bad_value: bool,
+    /// Have nothing wrong but what is asked for above: no phase is cut, and address
+    /// and values are allowed.
+    pub sound: bool,
+}
+
+impl Plan {
+    pub fn sound() -> Plan {
+        Plan {
+            sound: true,
+            ..Plan::default()
+        }
+    }
 }
 
 /// Adds one byte on so many wires, with random levels on the others if noisy.
@@ -43,10 +57,23 @@ fn read_group(part: &Part, record: &Record) -> usize {
 }
 
 /// An address for this command, mostly at a place where something happens: the
-/// top, a group's end, a protected border, a place touched before.
-pub fn pick_address(rng: &mut Rng, part: &Part, record: &Record, opcode: u8, hot: &[u32]) -> u32 {
+/// top, a group's end, a protected border, a place touched before. If it is to be
+/// sound it is allowed.
+pub fn pick_address(
+    rng: &mut Rng,
+    part: &Part,
+    record: &Record,
+    opcode: u8,
+    hot: &[u32],
+    sound: bool,
+) -> u32 {
     let size = 1usize << record.n;
-    let drawn = rng.below(24);
+    // Addresses that are not allowed come out of the first seven.
+    let drawn = if sound {
+        7 + rng.below(17)
+    } else {
+        rng.below(24)
+    };
     let address = match (part.family, opcode) {
         (Family::Mram, 0x65) => match drawn {
             0 => rng.below(1 << 24),
@@ -138,9 +165,12 @@ fn pick_bytes(rng: &mut Rng, part: &Part, record: &Record) -> usize {
     }
 }
 
-/// Values for a register write, mostly allowed ones.
+/// Values for a register write: those of the plan, or drawn and mostly allowed.
 fn pick_values(rng: &mut Rng, part: &Part, opcode: u8, plan: &Plan) -> Vec<u8> {
-    let spoil = plan.bad_value || rng.chance(1, 6);
+    if let Some(values) = &plan.values {
+        return values.clone();
+    }
+    let spoil = plan.bad_value || !plan.sound && rng.chance(1, 6);
     match opcode {
         0x01 => {
             let mut status = (rng.below(16) << 2) as u8;
@@ -228,13 +258,13 @@ pub fn compose(
     if command.address {
         address = match plan.address {
             Some(address) => address,
-            None => pick_address(rng, part, record, opcode, hot),
+            None => pick_address(rng, part, record, opcode, hot, plan.sound),
         };
         for byte in &address.to_be_bytes()[1..] {
             push_byte(rng, &mut samples, *byte, wires, noisy);
         }
         // Some end right here, whatever the address is.
-        if plan.long_clocks == 0 && rng.chance(1, 20) {
+        if !plan.sound && plan.long_clocks == 0 && rng.chance(1, 20) {
             return samples;
         }
     }
@@ -266,7 +296,7 @@ pub fn compose(
             };
             let full = size * byte_clocks;
             let clocks = match rng.below(10) {
-                0 | 1 => rng.below(full),
+                0 | 1 if !plan.sound => rng.below(full),
                 2 | 3 => full + 1 + rng.below(9),
                 _ => full,
             };
@@ -281,6 +311,7 @@ pub fn compose(
                 push_byte(rng, &mut samples, byte, wires, noisy);
             }
             match rng.below(24) {
+                _ if plan.sound => {}
                 0 => {
                     let fewer = 1 + rng.below(byte_clocks);
                     samples.truncate(samples.len() - fewer);

@@ -12,6 +12,7 @@ use crate::compact::take_tape;
 use crate::device::Record;
 use crate::faults::{faults, OF_BUILD, PAIRS_OF_BUILD, PAIRS_OF_GATHER};
 use crate::generate::bundle;
+use crate::latched::{Reached, Seen};
 use crate::parts::PARTS;
 use crate::probe::Call;
 use crate::request;
@@ -197,12 +198,15 @@ pub fn of_bundle(seed: u64, tapes: usize, records: usize) -> (String, bool) {
     let bytes = bundle(seed, tapes, records);
     let mut left = &bytes[..];
     let mut tally = Tally::default();
+    let mut latched = Reached::default();
     let (mut all_records, mut transactions, mut clocks) = (0u64, 0u64, 0u64);
     let (mut power_cycles, mut fresh_chips) = (0u64, 0u64);
     let (mut ends, mut bads) = (0u64, 0u64);
     while let Some(tape) = take_tape(&mut left) {
+        let mut seen = Vec::new();
         let ending = run(tape, &mut |step| {
             all_records += 1;
+            seen.push(Seen::new(step));
             match (step.entry, &step.before) {
                 (Entry::Transaction(samples), Some(before)) => {
                     transactions += 1;
@@ -213,6 +217,7 @@ pub fn of_bundle(seed: u64, tapes: usize, records: usize) -> (String, bool) {
                 _ => fresh_chips += 1,
             }
         });
+        latched.add_tape(&seen);
         match ending {
             crate::tape::Ending::End(_) => ends += 1,
             crate::tape::Ending::Bad(_) => bads += 1,
@@ -225,6 +230,11 @@ pub fn of_bundle(seed: u64, tapes: usize, records: usize) -> (String, bool) {
     let mut complete = tally.show_answers("transactions by answer:", &ON_TAPE, &mut text);
     text += "  a tape can never show 1 (its sizes are always right) or 3 (its records are always valid)\n";
     complete &= tally.show_pairs(&mut text);
+    complete &= latched.show(
+        "writes with the latch up, a status read right behind \
+         (and a memory write behind that, of a register write answered 0):",
+        &mut text,
+    );
     text += verdict(complete);
     (text, complete)
 }
@@ -232,6 +242,7 @@ pub fn of_bundle(seed: u64, tapes: usize, records: usize) -> (String, bool) {
 /// Makes probes, runs them and tells what they reached.
 pub fn of_probes(seed: u64, count: usize) -> (String, bool) {
     let mut transactions = Tally::default();
+    let mut latched = Reached::default();
     let mut power_cycles = Tally::default();
     let mut clocks = 0u64;
     let mut most_clocks = 0;
@@ -242,6 +253,7 @@ pub fn of_probes(seed: u64, count: usize) -> (String, bool) {
                 clocks += probe.samples.len() as u64;
                 most_clocks = most_clocks.max(probe.samples.len());
                 transactions.add(&probe.record, &probe.samples, outcome.answer);
+                latched.add_call(&probe.record, &probe.samples, outcome.answer);
             }
             Call::PowerCycle => {
                 *power_cycles.answers.entry(outcome.answer).or_default() += 1;
@@ -253,6 +265,7 @@ pub fn of_probes(seed: u64, count: usize) -> (String, bool) {
         transactions.show_answers("transactions by answer:", &ON_TRANSACTION, &mut text);
     complete &= power_cycles.show_answers("power cycles by answer:", &ON_POWER_CYCLE, &mut text);
     complete &= transactions.show_pairs(&mut text);
+    complete &= latched.show("writes with the latch up:", &mut text);
     text += verdict(complete);
     (text, complete)
 }

@@ -44,12 +44,9 @@ pub fn act(
             put_out(output, reading, &drive(&bytes, data_clocks, wires));
         }
         (Answer::Done, Data::WriteFixed(_)) => {
-            // The write mode that counts is the one before this write.
-            let drops_latch = part.family == Family::Mram && record.write_mode() != 2;
             store_register(part, record, opcode, &reading.data);
-            if drops_latch {
-                record.latch = false;
-            }
+            // In every write mode (document 02, P3); the PSRAM's latch is never up.
+            record.latch = false;
         }
         (Answer::Done, Data::WriteRunning) => {
             let burst = burst(part, record, opcode, address);

@@ -7,8 +7,9 @@
 use std::collections::BTreeMap;
 
 use crate::answer::Answer;
-use crate::compose::{compose, disturb, pick_address, Plan};
+use crate::compose::{compose, disturb, pick_address, pick_configurations, Plan};
 use crate::device::{fresh, power_cycle, transact, Record};
+use crate::latched::Goals;
 use crate::parts::{another, Family, Part, FIRST_FREE_NUMBER, M, P, PARTS};
 use crate::places::{share_bytes, wrap_length};
 use crate::rng::Rng;
@@ -16,11 +17,13 @@ use crate::table::Data;
 use crate::tape::{Chip, HEAD_BYTES, MOST_TAPE_BYTES, MOST_TAPE_N, MOST_TAPE_SAMPLES};
 
 /// Makes tapes one after the other. It keeps a list of opcode and mode pairs of
-/// each part and works it off across tapes, so that none is left to chance.
+/// each part and one of writes with the latch up, and works both off across tapes,
+/// so that none is left to chance.
 pub struct Maker {
     rng: Rng,
     /// By part number.
     goals: BTreeMap<u8, Vec<(u8, u8)>>,
+    latched: Goals,
 }
 
 impl Maker {
@@ -28,6 +31,7 @@ impl Maker {
         Maker {
             rng: Rng::new(seed),
             goals: BTreeMap::new(),
+            latched: Goals::default(),
         }
     }
 
@@ -194,9 +198,7 @@ impl TapeInWork<'_> {
             Family::Mram => {
                 for opcode in [0x87, 0x01, 0x1A] {
                     if self.rng().chance(2, 3) {
-                        if !self.record().latch {
-                            self.plain(0x06);
-                        }
+                        self.raise_latch();
                         self.plain(opcode);
                     }
                 }
@@ -290,12 +292,18 @@ impl TapeInWork<'_> {
     /// Draws an address for a command now, so that it can be used twice.
     fn address(&mut self, opcode: u8) -> u32 {
         let (part, record) = (self.part(), self.record());
-        let address = pick_address(&mut self.maker.rng, part, &record, opcode, &self.hot);
+        let address = pick_address(&mut self.maker.rng, part, &record, opcode, &self.hot, false);
         if self.hot.len() >= 8 {
             self.hot.remove(0);
         }
         self.hot.push(address);
         address
+    }
+
+    fn wake(&mut self) {
+        if self.record().asleep {
+            self.plain(0xAB);
+        }
     }
 
     fn go_to_mode(&mut self, mode: u8) {
@@ -318,11 +326,35 @@ impl TapeInWork<'_> {
         self.go_to_mode(mode);
     }
 
-    /// Write enable before a write; sometimes it is left out.
-    fn enable(&mut self) {
-        let has_latch = self.part().family == Family::Mram;
-        if has_latch && !self.record().latch && !self.rng().chance(1, 9) {
+    /// Write enable where there is a latch and it is down.
+    fn raise_latch(&mut self) {
+        if self.part().family == Family::Mram && !self.record().latch {
             self.plain(0x06);
+        }
+    }
+
+    /// The same before a write; sometimes it is left out.
+    fn enable(&mut self) {
+        if !self.rng().chance(1, 9) {
+            self.raise_latch();
+        }
+    }
+
+    /// Writes a register of the MRAM with these values.
+    fn set(&mut self, opcode: u8, values: &[u8]) {
+        self.raise_latch();
+        let plan = Plan {
+            values: Some(values.to_vec()),
+            ..Plan::sound()
+        };
+        self.command(opcode, &plan);
+    }
+
+    fn go_to_write_mode(&mut self, write_mode: u8) {
+        let part = self.part();
+        if self.record().write_mode() != write_mode {
+            let [first, second, third, _] = pick_configurations(self.rng(), part);
+            self.set(0x87, &[first, second, third, 0x04 | write_mode]);
         }
     }
 
@@ -331,7 +363,8 @@ impl TapeInWork<'_> {
             return;
         }
         if self.rng().chance(1, 50) {
-            // A transaction or a power cycle before any chip.
+            // A transaction or a power cycle before any chip. What stands behind it
+            // is never read, so that no goal is worked off there.
             let payload = self.rng().bytes(4);
             let payload: Vec<u8> = payload.iter().map(|byte| byte & 0x0F).collect();
             if self.rng().chance(1, 2) {
@@ -339,6 +372,7 @@ impl TapeInWork<'_> {
             } else {
                 self.put(2, &[]);
             }
+            return self.fresh_chip();
         }
         self.fresh_chip();
         let damaged = self.rng().chance(3, 10);
@@ -419,9 +453,7 @@ impl TapeInWork<'_> {
     fn reach_goal(&mut self) {
         let part = self.part();
         let (opcode, mode) = self.maker.goal(part);
-        if self.record().asleep {
-            self.plain(0xAB);
-        }
+        self.wake();
         self.go_to_mode(mode);
         let command = part.command(opcode, mode);
         if let Some(command) = command {
@@ -434,8 +466,8 @@ impl TapeInWork<'_> {
             self.plain(0x66);
         }
         let answer = self.rough_command(opcode, &Plan::default());
-        // A draw that failed is tried once more, so that each pair gets its 0, or
-        // its 5 where the table does not know it.
+        // A draw that failed is tried once more with nothing wrong, so that each pair
+        // gets its 0, or its 5 where the table does not know it.
         let wanted = match command {
             Some(_) => Answer::Done,
             None => Answer::Unknown,
@@ -445,10 +477,10 @@ impl TapeInWork<'_> {
                 0x99 => {
                     self.plain(0x66);
                 }
-                0x01 | 0x1A | 0x87 | 0xC2 | 0x02 | 0x42 => self.enable(),
+                0x01 | 0x1A | 0x87 | 0xC2 | 0x02 | 0x42 => self.raise_latch(),
                 _ => {}
             }
-            self.command(opcode, &Plan::default());
+            self.command(opcode, &Plan::sound());
         }
     }
 
@@ -599,9 +631,7 @@ impl TapeInWork<'_> {
 
     /// A burst of some hundreds or thousands of clocks.
     fn long(&mut self) {
-        if self.record().asleep {
-            self.plain(0xAB);
-        }
+        self.wake();
         let (part, mode) = (self.part(), self.record().mode);
         let mut running = part.opcodes();
         running.retain(|&opcode| {
@@ -627,7 +657,7 @@ impl TapeInWork<'_> {
     }
 
     fn scene_of_mram(&mut self) {
-        match self.rng().below(100) {
+        match self.rng().below(120) {
             0..=6 => self.across_a_group(),
             7..=35 => {
                 // Memory: write, and read back the same place on one wire.
@@ -707,11 +737,37 @@ impl TapeInWork<'_> {
                 let opcode = self.rng().pick(&[0x06, 0x04, 0x00]);
                 self.rough_command(opcode, &Plan::default());
             }
+            94..=113 => self.write_with_latch_up(),
             _ => {
                 let all = self.part().opcodes();
                 let opcode = self.rng().pick(&all);
                 self.rough_command(opcode, &Plan::default());
             }
+        }
+    }
+
+    /// The next write of the list of those with the latch up, and a status read,
+    /// which shows the latch after it. Behind a register write answered 0 comes a
+    /// memory write, which shows it too where it needs the latch.
+    fn write_with_latch_up(&mut self) {
+        let goal = self.maker.latched.take(&mut self.maker.rng);
+        self.wake();
+        if goal.opcode == 0x42 {
+            // The area, which only mode 1 reaches.
+            self.go_to_mode(1);
+        }
+        self.go_to_write_mode(goal.write_mode);
+        let (part, record) = (self.part(), self.record());
+        if let Some((opcode, value)) = goal.needed_first(self.rng(), part, &record) {
+            self.set(opcode, &[value]);
+        }
+        self.raise_latch();
+        let record = self.record();
+        let samples = goal.samples(self.rng(), part, &record);
+        self.send(&samples);
+        self.command(0x05, &Plan::sound());
+        if goal.is_register_write_done() {
+            self.command(0x02, &Plan::sound());
         }
     }
 

@@ -1,6 +1,6 @@
 //! A plain model of two serial memory chips, of the host half that talks to
-//! them, and of the bench tape, written from document 01 and its source
-//! documents alone.
+//! them, and of the bench tape, written from document 01, request P3 of document
+//! 02 and the source documents alone.
 //!
 //! Part M is the serial MRAM and has number 1, part P the serial PSRAM and has
 //! number 2. A transaction is worked out as a whole, in three steps: the samples
@@ -18,6 +18,7 @@ pub mod faults;
 pub mod generate;
 pub mod host;
 pub mod judging;
+pub mod latched;
 pub mod pace;
 pub mod parts;
 pub mod places;

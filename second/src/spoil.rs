@@ -1,11 +1,12 @@
 //! Seeded probes: valid records in all states, and records and sizes in which one
-//! or two things are wrong.
+//! or two things are wrong; some are off lists of what has to come.
 
 use crate::compose::{
     compose, disturb, pick_configurations, pick_mr0, push_idle, spoil_configurations, Plan,
 };
 use crate::device::{fresh, Record, MOST_CLOCKS};
-use crate::parts::{another, find, Family, Part, FIRST_FREE_NUMBER, M, P};
+use crate::latched::{Goals, Latched};
+use crate::parts::{another, find, Family, Part, FIRST_FREE_NUMBER, M, P, PARTS};
 use crate::probe::{Call, Probe};
 use crate::rng::Rng;
 
@@ -121,8 +122,68 @@ fn spoil_sizes(rng: &mut Rng, probe: &mut Probe) {
     }
 }
 
-/// One probe.
-fn one_probe(rng: &mut Rng) -> Probe {
+/// A probe that lends what the record and the samples need.
+fn whole_probe(rng: &mut Rng, call: Call, part: &Part, record: Record, samples: Vec<u8>) -> Probe {
+    Probe {
+        call,
+        record,
+        memory_bytes: 1 << record.n,
+        area_bytes: part.area_bytes,
+        output_bytes: samples.len() + rng.pick(&[0, 0, 0, 1, 2, 7]),
+        seed: rng.draw() as u32,
+        samples,
+    }
+}
+
+/// A write that finds the latch up and gets its answer.
+fn latched_probe(rng: &mut Rng, goal: Latched) -> Probe {
+    let part = &M;
+    let mut record = valid_record(rng, part);
+    record.latch = true;
+    record.asleep = false;
+    record.configurations[3] = 0x04 | goal.write_mode;
+    if goal.opcode == 0x42 {
+        // The area, which only mode 1 reaches.
+        record.mode = 1;
+    }
+    match goal.needed_first(rng, part, &record) {
+        Some((0x01, value)) => record.status = value,
+        Some((_, value)) => record.area_protection = value,
+        None => {}
+    }
+    let samples = goal.samples(rng, part, &record);
+    whole_probe(rng, Call::Transact, part, record, samples)
+}
+
+/// Part, mode and opcode of a command, known in this mode or not.
+type Pair = (&'static Part, u8, u8);
+
+/// Each part's opcodes in each of its modes, and a few of any value.
+fn all_pairs(rng: &mut Rng) -> Vec<Pair> {
+    let mut list = Vec::new();
+    for part in PARTS {
+        for &mode in part.modes() {
+            let opcodes = [part.opcodes(), rng.bytes(2)].concat();
+            list.extend(opcodes.into_iter().map(|opcode| (part, mode, opcode)));
+        }
+    }
+    rng.shuffle(&mut list);
+    list
+}
+
+/// A command with nothing wrong in it, to a chip that is ready for it.
+fn sound_probe(rng: &mut Rng, (part, mode, opcode): Pair) -> Probe {
+    let mut record = valid_record(rng, part);
+    record.mode = mode;
+    record.armed |= opcode == 0x99;
+    record.asleep = false;
+    record.latch = part.family == Family::Mram;
+    let samples = compose(rng, part, &record, opcode, &[], &Plan::sound());
+    whole_probe(rng, Call::Transact, part, record, samples)
+}
+
+/// Any probe.
+fn any_probe(rng: &mut Rng) -> Probe {
     let part = rng.pick(&[&M, &M, &M, &P, &P]);
     let record = valid_record(rng, part);
     let call = if rng.chance(1, 12) {
@@ -175,15 +236,7 @@ fn one_probe(rng: &mut Rng) -> Probe {
             _ => {}
         }
     }
-    let mut probe = Probe {
-        call,
-        record,
-        memory_bytes: 1 << record.n,
-        area_bytes: part.area_bytes,
-        output_bytes: samples.len() + rng.pick(&[0, 0, 0, 1, 2, 7]),
-        seed: rng.draw() as u32,
-        samples,
-    };
+    let mut probe = whole_probe(rng, call, part, record, samples);
     // A power cycle has few ways to go wrong, so it is spoiled more often.
     let spoiled = match call {
         Call::Transact => rng.chance(1, 4),
@@ -207,18 +260,61 @@ fn one_probe(rng: &mut Rng) -> Probe {
     probe
 }
 
+/// Makes probes one after the other. It keeps a list of commands and one of writes
+/// with the latch up and works both off, so that none is left to chance.
+struct Spoiler {
+    rng: Rng,
+    pairs: Vec<Pair>,
+    latched: Goals,
+    made: usize,
+}
+
+impl Spoiler {
+    fn new(seed: u64) -> Spoiler {
+        Spoiler {
+            rng: Rng::new(seed),
+            pairs: Vec::new(),
+            latched: Goals::default(),
+            made: 0,
+        }
+    }
+
+    /// The next probe; of twelve, two are off the one list and one off the other.
+    fn next(&mut self) -> Probe {
+        self.made += 1;
+        match self.made % 12 {
+            4 | 8 => {
+                let pair = self.pair();
+                sound_probe(&mut self.rng, pair)
+            }
+            0 => {
+                let goal = self.latched.take(&mut self.rng);
+                latched_probe(&mut self.rng, goal)
+            }
+            _ => any_probe(&mut self.rng),
+        }
+    }
+
+    fn pair(&mut self) -> Pair {
+        if self.pairs.is_empty() {
+            self.pairs = all_pairs(&mut self.rng);
+        }
+        self.pairs.pop().unwrap_or((&M, 1, 0x66))
+    }
+}
+
 /// A list of probes.
 pub fn probe_list(seed: u64, count: usize) -> Vec<Probe> {
-    let mut rng = Rng::new(seed);
-    (0..count).map(|_| one_probe(&mut rng)).collect()
+    let mut spoiler = Spoiler::new(seed);
+    (0..count).map(|_| spoiler.next()).collect()
 }
 
 /// A probe file.
 pub fn probes(seed: u64, count: usize) -> Vec<u8> {
-    let mut rng = Rng::new(seed);
+    let mut spoiler = Spoiler::new(seed);
     let mut file = Vec::new();
     for _ in 0..count {
-        file.extend(one_probe(&mut rng).to_bytes());
+        file.extend(spoiler.next().to_bytes());
     }
     file
 }

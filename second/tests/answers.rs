@@ -560,57 +560,6 @@ fn row_9_looks_at_whole_bytes_only() {
 }
 
 #[test]
-fn latch_after_writes() {
-    for write_mode in 0..3u8 {
-        // Memory and area: dropped in mode 0 by 0 and by 9, else kept.
-        for (opcode, status) in [(0x02, 0x00), (0x02, 0x1C), (0x42, 0x00), (0x42, 0x1C)] {
-            let mut chip = Bench::m();
-            chip.record.configurations[3] = 0x04 | write_mode;
-            chip.record.latch = true;
-            chip.record.status = status;
-            chip.record.area_protection = status;
-            let answer = chip.write(opcode, 0x40, &[1]);
-            assert_eq!(answer, if status == 0 { 0 } else { 9 });
-            assert_eq!(chip.record.latch, write_mode != 0);
-        }
-        // Registers: kept in mode 2 alone.
-        for bytes in [
-            &[0x01, 0x00][..],
-            &[0x1A, 0x00],
-            &[0x87, 0, 0, 0, 0x05],
-            &[0xC2, 1, 2, 3, 4, 5, 6, 7, 8],
-        ] {
-            let mut chip = Bench::m();
-            chip.record.configurations[3] = 0x04 | write_mode;
-            chip.record.latch = true;
-            assert_eq!(chip.say(bytes), 0);
-            assert_eq!(chip.record.latch, write_mode == 2);
-        }
-    }
-}
-
-#[test]
-fn latch_follows_the_write_mode_before_the_write() {
-    for before in 0..3u8 {
-        for after in 0..3u8 {
-            let mut chip = Bench::m();
-            chip.record.configurations[3] = 0x04 | before;
-            chip.record.latch = true;
-            assert_eq!(chip.say(&[0x87, 0, 0, 0, 0x04 | after]), 0);
-            assert_eq!(chip.record.latch, before == 2);
-            assert_eq!(chip.record.configurations, [0, 0, 0, 0x04 | after]);
-        }
-    }
-    // Up from mode 2, a memory write in mode 0 then drops it.
-    let mut chip = Bench::m();
-    chip.record.configurations[3] = 0x06;
-    chip.record.latch = true;
-    assert_eq!(chip.say(&[0x87, 0, 0, 0, 0x04]), 0);
-    assert_eq!(chip.write(0x02, 0, &[1]), 0);
-    assert!(!chip.record.latch);
-}
-
-#[test]
 fn refusals_change_nothing_but_the_arming() {
     let cases: &[(u8, &[u8], usize)] = &[
         (4, &[], 3),

@@ -35,9 +35,9 @@ fn same_bytes_on_every_machine() {
     assert_eq!(format!("{:08X}", digest(&bundle(1, 20, 40))), BUNDLE);
     assert_eq!(format!("{:08X}", digest(&probes(1, 200))), PROBES);
 }
-const TAPE: &str = "936C954E";
-const BUNDLE: &str = "D59F6007";
-const PROBES: &str = "ACE3D7C2";
+const TAPE: &str = "CDED4ECB";
+const BUNDLE: &str = "D9D21B30";
+const PROBES: &str = "A0A47297";
 
 #[test]
 fn a_tape_has_about_as_many_records_as_asked() {
@@ -61,9 +61,11 @@ fn a_tape_has_about_as_many_records_as_asked() {
 
 #[test]
 fn coverage_of_the_default_bundle() {
-    let (text, complete) = of_bundle(1, 60, 60);
-    assert!(complete, "{text}");
-    assert!(text.ends_with("coverage complete\n"));
+    for seed in 1..=5 {
+        let (text, complete) = of_bundle(seed, 60, 60);
+        assert!(complete, "{text}");
+        assert!(text.ends_with("coverage complete\n"));
+    }
     let (text, complete) = of_bundle(1, 1, 10);
     assert!(!complete);
     assert!(text.ends_with("coverage incomplete\n"));
@@ -71,9 +73,11 @@ fn coverage_of_the_default_bundle() {
 
 #[test]
 fn coverage_of_the_default_probes() {
-    let (text, complete) = of_probes(1, 4000);
-    assert!(complete, "{text}");
-    assert!(text.ends_with("coverage complete\n"));
+    for seed in 1..=5 {
+        let (text, complete) = of_probes(seed, 2000);
+        assert!(complete, "{text}");
+        assert!(text.ends_with("coverage complete\n"));
+    }
     let (text, complete) = of_probes(1, 10);
     assert!(!complete);
     assert!(text.ends_with("coverage incomplete\n"));

@@ -20,7 +20,7 @@ use Rattle.record.specs.Answers.{classOf, isProtected}
 use Rattle.record.specs.Fields.{withRegisters, withIdentity, latchTo, armTo, modeTo, sleepTo, toggleTo}
 use Rattle.record.specs.Resets.{modeRegisterTo, resetOf}
 use Rattle.record.specs.Shows.{withoutLatch}
-use Rattle.changes.specs.Latches.{afterBurst, afterRegister}
+use Rattle.changes.specs.Latches.{afterBurst}
 
 -- ---- commands without data
 abbrev pub controlled : Control → Device → Device
@@ -79,9 +79,9 @@ writtenTo LongIdentity v d = d
 abbrev pub burstDone : Device → Device
 burstDone d = latchTo (afterBurst (d .registers .cr4) (d .volatile .latch)) d
 
--- the write mode before the write counts (D13)
+-- a register write takes the latch down in every write mode, the one before it and the one that it may write (document 02, P3; D13)
 abbrev pub registerDone : Register → List ℕ → Device → Device
-registerDone r v d = latchTo (afterRegister (d .registers .cr4) (d .volatile .latch)) (writtenTo r v d)
+registerDone r v d = latchTo false (writtenTo r v d)
 
 abbrev pub writeDone : Target → List ℕ → Device → Device
 writeDone (Into.Register r) v d = registerDone r v d

@@ -1,4 +1,5 @@
--- The write latch. Document 01, "Commands of part M", the paragraph "Latch". A write goes by the mode that it finds. The PSRAM has no latch.
+-- The write latch: which commands ask for it, and what a burst leaves of it. Document 01, "Commands of part M", the paragraph "Latch". What a register write
+-- leaves of it goes by no mode, and stands in Changes.antt, `registerDone`. The PSRAM has no latch.
 use Prim.Native.Nat.{ℕ, _%_}
 use mathlib.Core.Bool.{Bool, true, false, cond, not, _&&_}
 use lib.Dec.{eqb}
@@ -37,7 +38,3 @@ latchMissing f cr4 latch k = latchNeeded f cr4 k && not latch
 -- after a burst into memory or area that was stored, or was protected whole: only write mode 0 takes it down (D13)
 abbrev pub afterBurst : ℕ → Bool → Bool
 afterBurst cr4 latch = cond (eqb (writeMode cr4) 0) false latch
-
--- after a register write that was done: only write mode 2 leaves it as it is (D13)
-abbrev pub afterRegister : ℕ → Bool → Bool
-afterRegister cr4 latch = cond (eqb (writeMode cr4) 2) latch false

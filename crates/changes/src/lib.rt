@@ -1,7 +1,7 @@
 // What a transaction leaves of a record: what a command does when it is done, what an answer leaves, and the rules of the
 // write latch.
 ghost use mathlib.Core.Path.{_≡_};
-ghost use Rattle.changes.specs.Latches.{kindNeeds, latchNeeded, latchMissing, afterBurst, afterRegister};
+ghost use Rattle.changes.specs.Latches.{kindNeeds, latchNeeded, latchMissing, afterBurst};
 ghost use Rattle.changes.specs.Changes.{controlled, writtenTo, burstDone, registerDone, writeDone, effectOf, declinedTo, settledOf};
 use kinds::Control;
 use kinds::Kind;
@@ -82,12 +82,11 @@ fn burst_done(d: Device) -> Device
     d.latched(after_burst(d.registers.cr4, d.volatile.latch))
 }
 
-// A register write of the MRAM, done. The write mode that counts is the one before it.
+// A register write of the MRAM, done: the latch goes down in every write mode.
 fn register_done(d: Device, r: Register, value: [u8; 8]) -> Device
     ensures { λ e. ⌜ e ≡ registerDone r value d ⌝ }
 {
-    let latch = after_register(d.registers.cr4, d.volatile.latch);
-    written(d, r, value).latched(latch)
+    written(d, r, value).latched(false)
 }
 
 // A write to this target, done.
@@ -179,15 +178,5 @@ fn after_burst(cr4: u8, latch: bool) -> bool
     match cr4 % 4 {
         0 => false,
         _ => latch,
-    }
-}
-
-// The latch after a register write that was done.
-fn after_register(cr4: u8, latch: bool) -> bool
-    ensures { λ r. ⌜ r ≡ afterRegister cr4 latch ⌝ }
-{
-    match cr4 % 4 {
-        2 => latch,
-        _ => false,
     }
 }

@@ -2,6 +2,7 @@ pub mod ExactOrder
 pub mod Refused
 pub mod Counted
 pub mod Declined
+pub mod Latched
 pub mod Driven
 pub mod Kept
 pub mod Sent

@@ -129,12 +129,27 @@ unfoldable pub answersIn : Device → List (List ℕ) → List ℕ
 answersIn d [] = []
 answersIn d (xs ∷ rest) = let r = sent d (onM (blank 1024)) xs in answerNumber (r .answer) ∷ answersIn (r .device) rest
 
+-- the chip that they leave
+unfoldable pub leftIn : Device → List (List ℕ) → Device
+leftIn d [] = d
+leftIn d (xs ∷ rest) = leftIn (sent d (onM (blank 1024)) xs .device) rest
+
 -- one byte to address 0, and a chip in a write mode
 abbrev stores : List ℕ
 stores = byte One 0x02 ++ (address One 0 ++ byte One 0x5A)
 
 abbrev inWriteMode : ℕ → Device
 inWriteMode mode = configurationsTo (0x00 ∷ 0x08 ∷ 0x00 ∷ (0x04 + mode) ∷ []) m
+
+-- register writes: a status with a share of 1/64, a status that no chip has, and configurations that change nothing but the write mode
+abbrev protects : List ℕ
+protects = byte One 0x01 ++ byte One 0x04
+
+abbrev misprotects : List ℕ
+misprotects = byte One 0x01 ++ byte One 0x80
+
+abbrev configures : ℕ → List ℕ
+configures mode = byte One 0x87 ++ (byte One 0x00 ++ (byte One 0x08 ++ (byte One 0x00 ++ byte One (0x04 + mode))))
 
 -- chips whose identities show which byte is which
 abbrev namedM : Device
@@ -153,6 +168,10 @@ asks d l opcode mode address wanted wires =
     let o : Order = record { part = d .make .part; opcode = opcode; mode = mode; address = address; cr2 = 0; written = []; wanted = bytes wanted } in
     let t = buildOf o (replicate 128 0xA5) in
     collectOf wires (sent d l (take (t .number .0) (t .buffer)) .output) (replicate 10 0xA5)
+
+-- the status that 05 shows
+abbrev statusSeen : Device → ℕ
+statusSeen d = getD (asks d (onM (blank 1024)) 0x05 1 0 1 1 .buffer) 0 0
 
 -- Where (g) and (h) leave a way out: a burst that comes out of the protected bytes goes on, and part M's groups are for reads and not for writes. Then the way
 -- from the host to the device and back: four bytes of part P by EB, and eight asked of a register that has one, by 65. Last,
@@ -189,14 +208,24 @@ further =
     -- sleep: nothing but AB is known, and a power cycle wakes too
     ∷ same (answersIn m (byte One 0xB9 ∷ byte One 0x06 ∷ byte One 0xAB ∷ byte One 0x06 ∷ [])) (0 ∷ 6 ∷ 0 ∷ 0 ∷ [])
     ∷ not (powerOf (sleepTo true m) (onM (blank 1024)) .device .volatile .asleep)
-    -- the latch: write mode 0 wants it for each burst, 1 for none, 2 keeps it up until 04
+    -- the latch and bursts: write mode 0 wants it for each burst, 1 for none, 2 keeps it up from burst to burst
     ∷ same (answersIn (inWriteMode 0) (stores ∷ byte One 0x06 ∷ stores ∷ stores ∷ [])) (8 ∷ 0 ∷ 0 ∷ 8 ∷ [])
     ∷ same (answersIn (inWriteMode 1) (stores ∷ stores ∷ [])) (0 ∷ 0 ∷ [])
     ∷ same (answersIn (inWriteMode 2) (byte One 0x06 ∷ stores ∷ stores ∷ byte One 0x04 ∷ stores ∷ [])) (0 ∷ 0 ∷ 0 ∷ 0 ∷ 8 ∷ [])
+    -- the latch and register writes (document 02, P3): in each write mode it is up before a status is written, as bit 1 of the status shows, and down after it,
+    -- so that a burst that needs it is answered 8; the same where the write mode itself is written; a register write that is declined leaves it up
+    ∷ all (map (λ mode. eqb (statusSeen (leftIn (inWriteMode mode) (byte One 0x06 ∷ []))) 0x02) (0 ∷ 1 ∷ 2 ∷ []))
+    ∷ all (map (λ mode. eqb (statusSeen (leftIn (inWriteMode mode) (byte One 0x06 ∷ protects ∷ []))) 0x04) (0 ∷ 1 ∷ 2 ∷ []))
+    ∷ same (answersIn (inWriteMode 0) (byte One 0x06 ∷ protects ∷ stores ∷ [])) (0 ∷ 0 ∷ 8 ∷ [])
+    ∷ same (answersIn (inWriteMode 1) (byte One 0x06 ∷ protects ∷ stores ∷ [])) (0 ∷ 0 ∷ 0 ∷ [])
+    ∷ same (answersIn (inWriteMode 2) (byte One 0x06 ∷ stores ∷ protects ∷ stores ∷ [])) (0 ∷ 0 ∷ 0 ∷ 8 ∷ [])
+    ∷ same (answersIn (inWriteMode 2) (byte One 0x06 ∷ configures 0 ∷ stores ∷ [])) (0 ∷ 0 ∷ 8 ∷ [])
+    ∷ same (answersIn (inWriteMode 1) (byte One 0x06 ∷ configures 2 ∷ stores ∷ [])) (0 ∷ 0 ∷ 8 ∷ [])
+    ∷ same (answersIn (inWriteMode 2) (byte One 0x06 ∷ misprotects ∷ stores ∷ [])) (0 ∷ 10 ∷ 0 ∷ [])
     -- a refusal: the output is as it was, and the chip is still armed
     ∷ (let r = transactOf (armTo true m) (onM (blank 1024)) (0x10 ∷ []) (7 ∷ 8 ∷ []) in answers r 2 (blank 5) && (same (r .output) (7 ∷ 8 ∷ []) && r .device .volatile .armed))
     ∷ []
 
 pub further-hold : T (all further)
-unfolding further answersIn powerOf kindAsked beyond overlong spreadAll builtOf buildOf seenIn strange collected collectOf shiftOf gatherFrom spelled groupOf meaningOf mappedOf statusAllowed cr3Allowed cr4Allowed configurationsAllowed modeRegisterAllowed modeAllowed zeros mramRegisters psramRegisters mramVolatile psramVolatile mramIdentity psramIdentity validOf readSpan writeSpan placeIn shutMemory sectionShut protectedOf areaProtectedOf asleepFor refusedAt stopped decided commandClocks wiresFor addressClocks waitClocks bodyFor kindRead addressRead readingOf bytesIn dataBytes protectedAt putAt howMany allShut takeAll byteRead levelAt along judge unarmed latchMissing offered sizedFor roomFor sampled sentBytes factsOf storedBy outputOf over clockedOf transactOf
+unfolding further answersIn leftIn powerOf kindAsked beyond overlong spreadAll builtOf buildOf seenIn strange collected collectOf shiftOf gatherFrom spelled groupOf meaningOf mappedOf statusAllowed cr3Allowed cr4Allowed configurationsAllowed modeRegisterAllowed modeAllowed zeros mramRegisters psramRegisters mramVolatile psramVolatile mramIdentity psramIdentity validOf readSpan writeSpan placeIn shutMemory sectionShut protectedOf areaProtectedOf asleepFor refusedAt stopped decided commandClocks wiresFor addressClocks waitClocks bodyFor kindRead addressRead readingOf bytesIn dataBytes protectedAt putAt howMany allShut takeAll byteRead levelAt along judge unarmed latchMissing offered sizedFor roomFor sampled sentBytes factsOf storedBy outputOf over clockedOf transactOf
 further-hold = tt

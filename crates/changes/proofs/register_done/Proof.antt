@@ -1,4 +1,4 @@
--- `changes::register_done` meets its contract: the latch goes by the write mode before the write.
+-- `changes::register_done` meets its contract: the value is written, and the latch is down.
 -- Assumes nothing.
 use Rattle.changes.proofs.register_done.Statement.{statement}
 use Rattle.changes.proofs.register_done.Tie as tie
@@ -7,7 +7,7 @@ pub register-done-spec : {M : Type 1} → statement M
 register-done-spec =
     tie.close
     (tie.spec
-    -- after-register-requires, written-requires, latched-requires
-    (λ c κs. tt) (λ c κs. tt) (λ c κs. tt)
+    -- written-requires, latched-requires
+    (λ c κs. tt) (λ c κs. tt)
     -- returns
-    (λ c. rw (c .latched .ensures, c .before .written .ensures, c .before .before .after-register .ensures)))
+    (λ c. rw (c .latched .ensures, c .before .written .ensures)))
