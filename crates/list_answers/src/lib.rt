@@ -103,7 +103,8 @@ fn put_refused(page: &mut [u8], at: usize, k: Kind) -> usize {
     )
 }
 
-// What became of a command that was done.
+// What became of a command that was done. A register write of the MRAM had the latch up, or it would not be done,
+// and leaves it down; the PSRAM has none.
 fn outcome(k: Kind) -> usize {
     match k {
         Kind::Unknown => 0,
@@ -111,9 +112,9 @@ fn outcome(k: Kind) -> usize {
         Kind::Read(_) => 2,
         Kind::Write(to) => match to {
             Target::Register(_) => 3,
-            Target::Mode => 3,
-            Target::Memory(_) => 4,
-            Target::Area => 4,
+            Target::Mode => 4,
+            Target::Memory(_) => 5,
+            Target::Area => 5,
         },
     }
 }
@@ -124,6 +125,7 @@ fn put_done(page: &mut [u8], at: usize, k: Kind) -> usize {
         at,
         b"|no rule is against it, and the command is carried out.\n\
         |no rule is against it, and every data clock is driven.\n\
+        |no rule is against it, the value is written, and the write latch goes down.\n\
         |no rule is against it, and the value is written.\n\
         |no rule is against it, and each whole byte that is not protected is stored.\n",
         outcome(k),
