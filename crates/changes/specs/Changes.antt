@@ -75,11 +75,11 @@ writtenTo ModeRegister v d = modeRegisterTo (getD v 0 0) d
 writtenTo LongIdentity v d = d
 
 -- ---- what a command done does to the record, and what each answer leaves
--- On the PSRAM both latch rules leave the latch down, where the state check wants it.
+-- On the PSRAM a burst leaves the latch down, where the state check wants it.
 abbrev pub burstDone : Device → Device
 burstDone d = latchTo (afterBurst (d .registers .cr4) (d .volatile .latch)) d
 
--- a register write takes the latch down in every write mode, the one before it and the one that it may write (document 02, P3; D13)
+-- a register write that is done takes the latch down, whatever the write mode before it and whatever mode it writes (document 02, P3; D13)
 abbrev pub registerDone : Register → List ℕ → Device → Device
 registerDone r v d = latchTo false (writtenTo r v d)
 

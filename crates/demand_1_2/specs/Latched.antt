@@ -5,6 +5,7 @@ use mathlib.Core.Path.{_≡_, refl, sym, ap, _∙_}
 use Prim.Native.Nat.{ℕ}
 use mathlib.Core.Bool.{Bool, true, false, cond, _||_}
 use mathlib.Core.List.{List}
+use lib.Dec.{eqb}
 use Rattle.basis.specs.Truth.{never}
 use Rattle.units.specs.declared.Bytes.{Bytes}
 use Rattle.units.specs.Units.{wholeOf}
@@ -23,7 +24,7 @@ use Rattle.record.specs.declared.devices.Device.{Device}
 use Rattle.record.specs.declared.devices.Aim.{Aim}
 use Rattle.record.specs.Devices.{settingOf, aimOf}
 use Rattle.record.specs.Answers.{isDone, refuses, isProtected}
-use Rattle.changes.specs.Latches.{afterBurst}
+use Rattle.changes.specs.Latches.{writeMode}
 use Rattle.changes.specs.Changes.{settledOf}
 use Rattle.paper.specs.InForce.{decided, wiresFor, bodyFor}
 use Rattle.paper.specs.Reading.{readingOf}
@@ -33,13 +34,17 @@ use Rattle.paper.specs.Answers.{shutData, tableFor, judge}
 use Rattle.paper.specs.Transaction.{factsOf, clockedOf, transactOf}
 use Rattle.paper.specs.CallLaws.{not-refused}
 
--- What a write leaves of it, by where it goes and how it is answered. A register write that is done takes it down in every write mode; a burst that is stored, or protected whole, goes by the write
--- mode; any other answer leaves it. The PSRAM has no latch, and its B1 moves none.
+-- a burst that is answered 0 or 9 takes it down in write mode 0; in 1 and 2, and with any other answer, it leaves it
+abbrev burstLeft : Answer → ℕ → Bool → Bool
+burstLeft v cr4 latch = cond (isDone v || isProtected v) (cond (eqb (writeMode cr4) 0) false latch) latch
+
+-- What a write leaves of the latch, by its target and its answer. A register write that is done takes it down in every write mode, and one that is not done leaves it. The PSRAM has no latch,
+-- and its B1 moves none.
 abbrev pub latchLeft : Target → Answer → ℕ → Bool → Bool
 latchLeft (Into.Register r) v cr4 latch = cond (isDone v) false latch
 latchLeft Into.Mode v cr4 latch = latch
-latchLeft (Into.Memory r) v cr4 latch = cond (isDone v || isProtected v) (afterBurst cr4 latch) latch
-latchLeft Into.Area v cr4 latch = cond (isDone v || isProtected v) (afterBurst cr4 latch) latch
+latchLeft (Into.Memory r) v cr4 latch = burstLeft v cr4 latch
+latchLeft Into.Area v cr4 latch = burstLeft v cr4 latch
 
 -- an answer that is neither 0 nor 9 leaves it
 module _ (cr4 : ℕ) (latch : Bool) where
@@ -55,7 +60,7 @@ fixed-open true b a m = refl
 fixed-open false b a m = refl
 
 module _ (d : Device) (value : List ℕ) where
-  -- the latch after a command of this kind, answered so, is what the table says
+  -- the latch after a command of this kind, answered so, is what `latchLeft` says
   abbrev Leaves : Target → Kind → Answer → Type 0
   Leaves t k v = settledOf k value v d .volatile .latch ≡ latchLeft t v (d .registers .cr4) (d .volatile .latch)
 

@@ -104,7 +104,7 @@ fn put_refused(page: &mut [u8], at: usize, k: Kind) -> usize {
 }
 
 // What became of a command that was done. A register write of the MRAM had the latch up, or it would not be done,
-// and leaves it down; the PSRAM has none.
+// and leaves it down; the PSRAM has no latch.
 fn outcome(k: Kind) -> usize {
     match k {
         Kind::Unknown => 0,

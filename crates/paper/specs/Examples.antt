@@ -213,7 +213,8 @@ further =
     ∷ same (answersIn (inWriteMode 1) (stores ∷ stores ∷ [])) (0 ∷ 0 ∷ [])
     ∷ same (answersIn (inWriteMode 2) (byte One 0x06 ∷ stores ∷ stores ∷ byte One 0x04 ∷ stores ∷ [])) (0 ∷ 0 ∷ 0 ∷ 0 ∷ 8 ∷ [])
     -- the latch and register writes (document 02, P3): in each write mode it is up before a status is written, as bit 1 of the status shows, and down after it,
-    -- so that a burst that needs it is answered 8; the same where the write mode itself is written; a register write that is declined leaves it up
+    -- so that a burst that needs it is answered 8; the same where the write mode itself is written; a register write that is declined leaves it up; and in each
+    -- write mode a second register write is answered 8
     ∷ all (map (λ mode. eqb (statusSeen (leftIn (inWriteMode mode) (byte One 0x06 ∷ []))) 0x02) (0 ∷ 1 ∷ 2 ∷ []))
     ∷ all (map (λ mode. eqb (statusSeen (leftIn (inWriteMode mode) (byte One 0x06 ∷ protects ∷ []))) 0x04) (0 ∷ 1 ∷ 2 ∷ []))
     ∷ same (answersIn (inWriteMode 0) (byte One 0x06 ∷ protects ∷ stores ∷ [])) (0 ∷ 0 ∷ 8 ∷ [])
@@ -222,6 +223,7 @@ further =
     ∷ same (answersIn (inWriteMode 2) (byte One 0x06 ∷ configures 0 ∷ stores ∷ [])) (0 ∷ 0 ∷ 8 ∷ [])
     ∷ same (answersIn (inWriteMode 1) (byte One 0x06 ∷ configures 2 ∷ stores ∷ [])) (0 ∷ 0 ∷ 8 ∷ [])
     ∷ same (answersIn (inWriteMode 2) (byte One 0x06 ∷ misprotects ∷ stores ∷ [])) (0 ∷ 10 ∷ 0 ∷ [])
+    ∷ all (map (λ mode. same (answersIn (inWriteMode mode) (byte One 0x06 ∷ protects ∷ protects ∷ [])) (0 ∷ 0 ∷ 8 ∷ [])) (0 ∷ 1 ∷ 2 ∷ []))
     -- a refusal: the output is as it was, and the chip is still armed
     ∷ (let r = transactOf (armTo true m) (onM (blank 1024)) (0x10 ∷ []) (7 ∷ 8 ∷ []) in answers r 2 (blank 5) && (same (r .output) (7 ∷ 8 ∷ []) && r .device .volatile .armed))
     ∷ []
