@@ -1,5 +1,5 @@
--- LATCH (demand 2): what a write leaves of the write latch, whatever comes in. Document 01, "Commands of part M", the paragraph "Latch", with document 02's P3 in place of what it says of register
--- writes in write mode 2. A write that is refused leaves it, too, as it was (Refused.antt).
+-- LATCH (demand 2): what a write leaves of the write latch, whatever comes in. Document 01, "Commands of part M", the paragraph "Latch", with document 02's P3 in
+-- place of what it says of register writes in write mode 2. A write that is refused leaves it, too, as it was (Refused.antt).
 -- Assumes nothing.
 use mathlib.Core.Path.{_≡_, refl, sym, ap, _∙_}
 use Prim.Native.Nat.{ℕ}
@@ -38,8 +38,8 @@ use Rattle.paper.specs.CallLaws.{not-refused}
 abbrev burstLeft : Answer → ℕ → Bool → Bool
 burstLeft v cr4 latch = cond (isDone v || isProtected v) (cond (eqb (writeMode cr4) 0) false latch) latch
 
--- What a write leaves of the latch, by its target and its answer. A register write that is done takes it down in every write mode, and one that is not done leaves it. The PSRAM has no latch,
--- and its B1 moves none.
+-- What a write leaves of the latch, by its target and its answer. A register write that is done takes it down in every write mode, and one that is not done
+-- leaves it. The PSRAM has no latch, and its B1 moves none. The rule of bursts is spelled out, so that the theorem pins it (D74).
 abbrev pub latchLeft : Target → Answer → ℕ → Bool → Bool
 latchLeft (Into.Register r) v cr4 latch = cond (isDone v) false latch
 latchLeft Into.Mode v cr4 latch = latch
