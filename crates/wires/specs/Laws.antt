@@ -2,7 +2,7 @@
 -- Assumes nothing.
 use mathlib.Core.Path.{_≡_, refl, ap, _∙_}
 use Prim.Native.Nat.{ℕ, zero, suc, _+_, _*_, _/_, _%_, _^_, _-_, _<_, _≤_}
-use native.Mathlib.Nat.{mul-zero, mul-suc, add-zero, zero-add, mul-one, mod-one, div-one, mul-assoc, add-mul, add-assoc, mod-mod, mod-lt, mod-eq-of-lt, lt-of-lt-of-le, lt-of-le-of-lt, le-of-lt, zero-mul, mul-le-mul-left, mul-lt-mul-of-pos-right, not-suc-le-zero}
+use native.Mathlib.Nat.{mul-zero, mul-suc, add-zero, zero-add, mul-one, mod-one, div-one, mul-assoc, add-mul, add-assoc, mod-mod, mod-lt, mod-eq-of-lt, lt-of-lt-of-le, zero-mul, mul-le-mul-left, not-suc-le-zero}
 use native.Mathlib.Omega.{arith}
 use mathlib.Core.List.{List, [], _∷_, _++_, map}
 use lib.ListN.{length, getD}
@@ -14,10 +14,6 @@ use Rattle.units.specs.declared.Wires.the-variants.{One, Two, Four}
 use Rattle.units.specs.Units.{wiresOf, perByte, comingOf, bitsIn}
 use Rattle.units.specs.Laws.{bits-of-byte, perByte-pos}
 use Rattle.wires.specs.Bits.{bitsOf, shiftOf, gatherFrom, gather, above, spelled, groupOf}
-
--- the product that a shift makes before the register cuts it fits the machine's word
-pub shift-fits : {number v : ℕ} → number < 2 ^ 32 → v < 2 ^ 8 → number * v < 2 ^ 40
-shift-fits {number} {v} h l = lt-of-le-of-lt (mul-le-mul-left number (le-of-lt l)) (mul-lt-mul-of-pos-right h (pow-pos 8))
 
 -- fewer than eight bits of a byte come after a clock of it
 pub below-byte : (w : Wires) (k : Clocks) → bitsIn w (comingOf w k) < 8

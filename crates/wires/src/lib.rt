@@ -1,6 +1,6 @@
 // What one clock carries, in and out, on one, two or four wires.
 ghost use mathlib.Core.Path.{_≡_};
-ghost use Prim.Native.Nat.{_^_};
+ghost use Prim.Native.Nat.{_+_, _*_, _^_};
 ghost use Rattle.units.specs.Units.{wiresOf};
 ghost use Rattle.wires.specs.Bits.{bitsOf, shiftOf, groupOf};
 ghost use Rattle.wires.specs.Levels.{levelOf, seenOf, drivenOf};
@@ -21,21 +21,25 @@ pub fn values(w: Wires) -> u8
     }
 }
 
-// The bits that a sample carries on these wires. The other wires are ignored.
-fn bits(x: u8, w: Wires) -> u8
-    ensures { λ r. ⌜ r ≡ bitsOf w x ⌝ }
+// A number with the bits of one more sample below it, as wide as it gets. The sample's other wires are ignored. This is
+// done in every clock that brings bits, so each number of wires has its shift and its remainder as constants (P2).
+fn with_bits(number: u32, x: u8, w: Wires) -> u64
+    ensures { λ r. ⌜ r ≡ number * 2 ^ wiresOf w + bitsOf w x ⌝ }
 {
-    x % values(w)
+    let n = number as u64;
+    let b = x as u64;
+    match w {
+        Wires::One => (n << 1) + b % 2,
+        Wires::Two => (n << 2) + b % 4,
+        Wires::Four => (n << 4) + b % 16,
+    }
 }
 
 // The number gathered so far, with the bits of one more sample below it.
 pub fn shift_in(number: u32, x: u8, w: Wires) -> u32
     ensures { λ r. ⌜ r ≡ shiftOf w number x ⌝ }
 {
-    let n = number as u64;
-    let v = values(w) as u64;
-    let b = bits(x, w) as u64;
-    ((n * v + b) % REGISTER) as u32
+    (with_bits(number, x, w) % REGISTER) as u32
 }
 
 // The bits of the byte `b` that travel in clock `k` of it, counted from 0.
