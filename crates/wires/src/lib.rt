@@ -21,7 +21,7 @@ pub fn values(w: Wires) -> u8
     }
 }
 
-// A number with the bits of one more sample below it, as wide as it gets. The sample's other wires are ignored. This is
+// A number with the bits of one more sample below it, and nothing cut off. The sample's other wires are ignored. This is
 // done in every clock that brings bits, so each number of wires has its shift and its remainder as constants (P2).
 fn with_bits(number: u32, x: u8, w: Wires) -> u64
     ensures { λ r. ⌜ r ≡ number * 2 ^ wiresOf w + bitsOf w x ⌝ }

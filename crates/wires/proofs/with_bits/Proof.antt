@@ -1,4 +1,4 @@
--- `wires::with_bits` meets its contract: each arm shifts by its wires, and takes the remainder by the power of them.
+-- `wires::with_bits` meets its contract: each arm shifts by its wires and takes the remainder by two to that power, and the shift loses nothing.
 -- Assumes nothing.
 use native.Mathlib.Omega.{arith}
 use borrow.Author.Needs.{needs}
