@@ -54,6 +54,10 @@ pub look-away : {A : Type 0} (none : A) (rs : List (ℕ × A)) (x : ℕ) → Awa
 look-away none [] x h = refl
 look-away none (r ∷ rs) x h = rw (ne-eqb x (r .0) (h .0)) (look-away none rs x (h .1))
 
+pub among-away : (ks : List ℕ) (x : ℕ) → Away x ks → among x ks ≡ false
+among-away [] x h = refl
+among-away (k ∷ ks) x h = rw (ne-eqb x k (h .0)) (among-away ks x (h .1))
+
 -- a test that every row passes, and the default too, is passed by what is found
 abbrev pub eachRow : {A : Type 0} → (A → Bool) → List (ℕ × A) → Bool
 eachRow q [] = true

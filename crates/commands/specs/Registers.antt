@@ -1,12 +1,12 @@
 -- Registers: sizes and addresses. Document 01, "Commands of part M" (the data column of the register commands, "Register addresses for 65") and
--- "Commands of part P" (B5, B1 and 9F).
+-- "Commands of part P" (B5, B1 and 9F). Document 02, P4 (part 3's addresses, from its Table 6).
 use Prim.Native.Nat.{ℕ}
 use mathlib.Core.List.{List, [], _∷_}
 use Rattle.basis.specs.Rows.{look}
 use Rattle.units.specs.declared.Bytes.{Bytes}
 use Rattle.units.specs.Units.{bytes}
 use Rattle.parts.specs.declared.Part.{Part}
-use Rattle.parts.specs.declared.Part.the-variants.{M, P}
+use Rattle.parts.specs.declared.Part.the-variants.{M, P, M32}
 use Rattle.kinds.specs.declared.Register.{Register}
 use Rattle.kinds.specs.declared.Register.the-variants.{Status, AreaProtection, Configuration1, Configuration2, Configuration3, Configuration4, Configurations, Identity, Unique, Serial, ModeRegister, LongIdentity}
 use Rattle.commands.specs.declared.registers.Mapped.{Mapped}
@@ -42,9 +42,10 @@ tablePlace Serial = 9
 tablePlace ModeRegister = 10
 tablePlace LongIdentity = 11
 
--- The register map: an address that no row has is not in it, and all 24 bits count. Area protection and serial number have no address (D5).
-abbrev pub mapOf : Part → List (ℕ × Mapped)
-mapOf M =
+-- The register map: an address that no row has is not in it, and all 24 bits count. What all parts of the MRAM have there; area protection has no
+-- address (D5).
+abbrev pub mramMap : List (ℕ × Mapped)
+mramMap =
     (0x00, At Status)
     ∷ (0x02, At Configuration1)
     ∷ (0x03, At Configuration2)
@@ -53,7 +54,12 @@ mapOf M =
     ∷ (0x30, At Identity)
     ∷ (0x40, At Unique)
     ∷ []
+
+-- the serial number has an address on part M32 alone (D78)
+abbrev pub mapOf : Part → List (ℕ × Mapped)
+mapOf M = mramMap
 mapOf P = []
+mapOf M32 = (0x80, At Serial) ∷ mramMap
 
 unfoldable pub mappedOf : Part → ℕ → Mapped
 mappedOf p address = look Nowhere (mapOf p) address

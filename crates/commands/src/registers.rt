@@ -1,7 +1,9 @@
 // Registers: how many bytes each has, and where 65h finds it.
 ghost use mathlib.Core.Path.{_≡_};
-ghost use Rattle.commands.specs.Registers.{tablePlace, bytesOf, mappedOf};
-ghost use Rattle.parts.specs.declared.Part.the-variants.{M};
+ghost use Rattle.basis.specs.Rows.{look};
+ghost use Rattle.commands.specs.declared.registers.Mapped.the-variants.{Nowhere};
+ghost use Rattle.commands.specs.Registers.{tablePlace, bytesOf, mramMap, mappedOf};
+ghost use Rattle.parts.specs.declared.Part.the-variants.{M32};
 use kinds::Register;
 use parts::Part;
 use units::Bytes;
@@ -47,13 +49,15 @@ pub fn register_at(part: Part, address: u32) -> Mapped
     ensures { λ r. ⌜ r ≡ mappedOf part address ⌝ }
 {
     match part {
-        Part::M => register_of_m(address),
+        Part::M => register_of_mram(address),
         Part::P => Mapped::Nowhere,
+        Part::M32 => register_of_m32(address),
     }
 }
 
-fn register_of_m(address: u32) -> Mapped
-    ensures { λ r. ⌜ r ≡ mappedOf M address ⌝ }
+// What is in the map of every part of the MRAM.
+fn register_of_mram(address: u32) -> Mapped
+    ensures { λ r. ⌜ r ≡ look Nowhere mramMap address ⌝ }
 {
     match address {
         0x00 => Mapped::At(Register::Status),
@@ -64,5 +68,15 @@ fn register_of_m(address: u32) -> Mapped
         0x30 => Mapped::At(Register::Identity),
         0x40 => Mapped::At(Register::Unique),
         _ => Mapped::Nowhere,
+    }
+}
+
+// Part M32: the serial number, and otherwise what every part has.
+fn register_of_m32(address: u32) -> Mapped
+    ensures { λ r. ⌜ r ≡ mappedOf M32 address ⌝ }
+{
+    match address {
+        0x80 => Mapped::At(Register::Serial),
+        _ => register_of_mram(address),
     }
 }

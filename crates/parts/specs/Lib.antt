@@ -1,2 +1,4 @@
 pub mod Parts
 pub mod Lengths
+pub mod Laws
+pub mod Examples

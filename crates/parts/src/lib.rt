@@ -1,7 +1,7 @@
 // What tells one part from another: the parts and their limits, and the lengths and shares that their
 // registers choose.
 ghost use mathlib.Core.Path.{_≡_};
-ghost use Rattle.parts.specs.Parts.{partOf, knownPart, familyOf, leastOf, mostOf, offered, areaOf, sectionOf, wrapCodes};
+ghost use Rattle.parts.specs.Parts.{partOf, knownPart, partNumber, familyOf, leastOf, mostOf, offered, areaOf, sectionOf, wrapCodes};
 ghost use Rattle.parts.specs.Lengths.{wrapLength, groupLength, shareOf};
 use units::Bytes;
 
@@ -46,10 +46,31 @@ impl PartP {
     pub const FRESH_MR0: u8 = 0x60;
 }
 
-// The largest memory and the largest area of all parts: room for any chip.
-pub const LARGEST_MEMORY: usize = 2097152;
+// Part M32, the serial MRAM of 32 Mbit. Of its memories that of 2^22 bytes is sold. Its fresh registers are those of part M.
+pub struct PartM32;
 
-pub const LARGEST_AREA: usize = 256;
+impl PartM32 {
+    pub const NUMBER: u8 = 3;
+
+    pub const LEAST: u8 = 10;
+
+    pub const MOST: u8 = 22;
+
+    pub const AREA: usize = 512;
+
+    pub const SECTION: usize = 64;
+
+    pub const WRAP_CODES: u8 = 7;
+
+    pub const FRESH_CR2: u8 = PartM::FRESH_CR2;
+
+    pub const FRESH_CR4: u8 = PartM::FRESH_CR4;
+}
+
+// The largest memory and the largest area of all parts: room for any chip.
+pub const LARGEST_MEMORY: usize = 4194304;
+
+pub const LARGEST_AREA: usize = 512;
 
 // Rules go by the family: commands, latch, protection, groups, reset and power (D57).
 pub enum Family {
@@ -61,6 +82,7 @@ pub enum Family {
 pub enum Part {
     M,
     P,
+    M32,
 }
 
 impl Part {
@@ -71,6 +93,7 @@ impl Part {
         match number {
             PartM::NUMBER => Part::M,
             PartP::NUMBER => Part::P,
+            PartM32::NUMBER => Part::M32,
             _ => Part::M,
         }
     }
@@ -82,7 +105,19 @@ impl Part {
         match number {
             PartM::NUMBER => true,
             PartP::NUMBER => true,
+            PartM32::NUMBER => true,
             _ => false,
+        }
+    }
+
+    // The number that stands for the part.
+    pub fn number(self) -> u8
+        ensures { λ r. ⌜ r ≡ partNumber self ⌝ }
+    {
+        match self {
+            Part::M => PartM::NUMBER,
+            Part::P => PartP::NUMBER,
+            Part::M32 => PartM32::NUMBER,
         }
     }
 
@@ -92,25 +127,28 @@ impl Part {
         match self {
             Part::M => Family::Mram,
             Part::P => Family::Psram,
+            Part::M32 => Family::Mram,
         }
     }
 
     // The smallest and the largest n of a memory of 2^n bytes.
-    fn least(self) -> u8
+    pub fn least(self) -> u8
         ensures { λ r. ⌜ r ≡ leastOf self ⌝ }
     {
         match self {
             Part::M => PartM::LEAST,
             Part::P => PartP::LEAST,
+            Part::M32 => PartM32::LEAST,
         }
     }
 
-    fn most(self) -> u8
+    pub fn most(self) -> u8
         ensures { λ r. ⌜ r ≡ mostOf self ⌝ }
     {
         match self {
             Part::M => PartM::MOST,
             Part::P => PartP::MOST,
+            Part::M32 => PartM32::MOST,
         }
     }
 
@@ -121,6 +159,7 @@ impl Part {
         match self {
             Part::M => PartM::WRAP_CODES,
             Part::P => PartP::WRAP_CODES,
+            Part::M32 => PartM32::WRAP_CODES,
         }
     }
 
@@ -131,6 +170,7 @@ impl Part {
         match self {
             Part::M => Bytes::stated(PartM::AREA),
             Part::P => Bytes::stated(PartP::AREA),
+            Part::M32 => Bytes::stated(PartM32::AREA),
         }
     }
 
@@ -141,6 +181,7 @@ impl Part {
         match self {
             Part::M => Bytes::stated(PartM::SECTION),
             Part::P => Bytes::stated(PartP::SECTION),
+            Part::M32 => Bytes::stated(PartM32::SECTION),
         }
     }
 }

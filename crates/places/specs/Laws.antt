@@ -12,7 +12,7 @@ use Rattle.units.specs.declared.Bytes.{Bytes}
 use Rattle.parts.specs.declared.Family.{Family}
 use Rattle.parts.specs.declared.Family.the-variants.{Mram, Psram}
 use Rattle.parts.specs.declared.Part.{Part}
-use Rattle.parts.specs.declared.Part.the-variants.{M, P}
+use Rattle.parts.specs.declared.Part.the-variants.{M, P, M32}
 use Rattle.parts.specs.Parts.{familyOf, areaOf, sectionOf}
 use Rattle.parts.specs.Lengths.{groups, wrapLength, shareAt, shareOf}
 use Rattle.record.specs.declared.devices.Setting.{Setting}
@@ -92,3 +92,4 @@ pub record Sectioned (p : Part) : Type 0 where
 pub sectioned : (p : Part) → familyOf p ≡ Mram → Sectioned p
 sectioned M e = record { area = lit< tt; section = lit< tt }
 sectioned P e = let z : _≡_ {A = ℕ} 0 1 = cc in absurd (omega arith)
+sectioned M32 e = record { area = lit< tt; section = lit< tt }

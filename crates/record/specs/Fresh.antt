@@ -1,5 +1,5 @@
 -- Fresh chips. Document 01, "Commands of part M" (the sentence on fresh values) and "Commands of part P" (the sentence after MR0's bits: what a reset
--- leaves is also what a new chip has).
+-- leaves is also what a new chip has). Document 02, P4 (what is not named of part 3 is as for part 1).
 use Prim.Native.Nat.{ℕ}
 use mathlib.Core.Bool.{false}
 use mathlib.Core.List.{List, _∷_}
@@ -7,7 +7,7 @@ use lib.ListN.{getD, replicate}
 use Rattle.parts.specs.declared.Family.{Family}
 use Rattle.parts.specs.declared.Family.the-variants.{Mram, Psram}
 use Rattle.parts.specs.declared.Part.{Part}
-use Rattle.parts.specs.declared.Part.the-variants.{M, P}
+use Rattle.parts.specs.declared.Part.the-variants.{M, P, M32}
 use Rattle.parts.specs.Parts.{partNumber, partOf, familyOf}
 use Rattle.record.specs.declared.devices.Registers.{Registers}
 use Rattle.record.specs.declared.devices.Volatile.{Volatile}
@@ -23,10 +23,15 @@ freshVolatile = record { mode = 1; latch = false; armed = false; asleep = false;
 abbrev pub freshModeRegister : ℕ
 freshModeRegister = 0x60
 
--- fresh registers go by the part (D57)
+-- the registers of a fresh MRAM
+abbrev pub freshMram : Registers
+freshMram = record { status = 0; protection = 0; cr1 = 0; cr2 = 0x08; cr3 = 0; cr4 = 0x05; mr0 = 0 }
+
+-- fresh registers go by the part (D57); part M32's are part M's (D81)
 abbrev pub freshRegisters : Part → Registers
-freshRegisters M = record { status = 0; protection = 0; cr1 = 0; cr2 = 0x08; cr3 = 0; cr4 = 0x05; mr0 = 0 }
+freshRegisters M = freshMram
 freshRegisters P = record { status = 0; protection = 0; cr1 = 0; cr2 = 0; cr3 = 0; cr4 = 0; mr0 = freshModeRegister }
+freshRegisters M32 = freshMram
 
 -- The serial number is 0. The MRAM has four bytes of device identity and a unique number, the PSRAM eight bytes of device identity (D7).
 abbrev pub freshIdentity : Family → List ℕ → List ℕ → Identities

@@ -6,7 +6,7 @@ use Prim.Native.Nat.{ℕ}
 use mathlib.Core.List.{List}
 use Rattle.basis.specs.Truth.{untrue}
 use Rattle.parts.specs.declared.Part.{Part}
-use Rattle.parts.specs.declared.Part.the-variants.{M, P}
+use Rattle.parts.specs.declared.Part.the-variants.{M, P, M32}
 use Rattle.parts.specs.Parts.{partOf, familyOf}
 use Rattle.record.specs.declared.answers.Answer.{Answer}
 use Rattle.record.specs.declared.answers.Answer.the-variants.{Done, Size, Sample, State, Short, Unknown, Asleep, Address, Latch, Protected, Reserved, Long, Unarmed}
@@ -26,6 +26,7 @@ module _ (m : Make) (device unique : List ℕ) where
   reset-new : (p : Part) → resetFor (familyOf p) (new p) ≡ new p
   reset-new M = refl
   reset-new P = refl
+  reset-new M32 = refl
 
   -- a fresh chip is as after a reset, and as after a power cycle
   pub reset-fresh : resetOf (freshOf m device unique) ≡ freshOf m device unique

@@ -9,6 +9,7 @@ use crate::devices::Volatile;
 use parts::Family;
 use parts::Part;
 use parts::PartM;
+use parts::PartM32;
 use parts::PartP;
 
 impl Registers {
@@ -34,6 +35,15 @@ impl Registers {
                 cr3: 0,
                 cr4: 0,
                 mr0: PartP::FRESH_MR0,
+            },
+            Part::M32 => Registers {
+                status: 0,
+                protection: 0,
+                cr1: 0,
+                cr2: PartM32::FRESH_CR2,
+                cr3: 0,
+                cr4: PartM32::FRESH_CR4,
+                mr0: 0,
             },
         }
     }

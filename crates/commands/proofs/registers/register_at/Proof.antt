@@ -1,4 +1,4 @@
--- `commands::registers::register_at` meets its contract: part M goes by its map, part P has none.
+-- `commands::registers::register_at` meets its contract: each part of the MRAM goes by its map, part P has none.
 -- Assumes nothing.
 use Rattle.commands.specs.Registers.{mappedOf}
 use borrow.Author.Needs.{needs}
@@ -10,9 +10,11 @@ unfolding mappedOf
 register-at-spec =
     tie.close
     (tie.spec
-    -- enum-told, register-of-m-requires, enum-told-2
-    (λ c. search needs) (λ c κs. tt) (λ c. search needs)
+    -- enum-told, register-of-mram-requires, enum-told-2, enum-told-3, register-of-m32-requires
+    (λ c. search needs) (λ c κs. tt) (λ c. search needs) (λ c. search needs) (λ c κs. tt)
     -- returns
-    (λ c. rw (c .before .enum-told .given .1) (c .register-of-m .ensures))
+    (λ c. rw (c .before .enum-told .given .1) (c .register-of-mram .ensures))
     -- returns-2
-    (λ c. rw (c .enum-told2 .given .1)))
+    (λ c. rw (c .enum-told2 .given .1))
+    -- returns-3
+    (λ c. rw (c .before .enum-told3 .given .1) (c .register-of-m32 .ensures)))

@@ -1,6 +1,8 @@
--- `parts::Part::is_known` meets its contract: 1 and 2 are known; the last arm has a number that is neither.
+-- `parts::Part::is_known` meets its contract: in each arm the number is that of a part; the last arm has a number that is none's.
 -- Assumes nothing.
-use borrow.Author.Tests.{ne-eqb}
+use mathlib.Core.Path.{sym}
+use Rattle.basis.specs.Rows.{keys, among-away, away-of-rest}
+use Rattle.parts.specs.Parts.{parts}
 use Rattle.parts.proofs.Part.is_known.Statement.{statement}
 use Rattle.parts.proofs.Part.is_known.Tie as tie
 
@@ -13,4 +15,6 @@ is-known-spec =
     -- returns-2
     (λ c. rw (c .match .keys2))
     -- returns-3
-    (λ c. rw (ne-eqb (c .before .args .number) 1 (c .match .rest .0 .1), ne-eqb (c .before .args .number) 2 (c .match .rest .1))))
+    (λ c. rw (c .match .keys3))
+    -- returns-4
+    (λ c. sym (among-away (keys parts) (c .before .args .number) (away-of-rest (c .before .args .number) (keys parts) (c .match .rest)))))

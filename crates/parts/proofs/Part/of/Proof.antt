@@ -1,8 +1,11 @@
--- `parts::Part::of` meets its contract: 1 is part M, 2 is part P; any other number is neither.
+-- `parts::Part::of` meets its contract: in each arm the number decides the row; the last arm has a number that no row has.
 -- Assumes nothing.
+use mathlib.Core.Path.{sym}
+use Rattle.basis.specs.Rows.{keys, look-away, away-of-rest}
+use Rattle.parts.specs.declared.Part.the-variants as the
+use Rattle.parts.specs.Parts.{parts}
 use Rattle.parts.proofs.Part.of.Statement.{statement}
 use Rattle.parts.proofs.Part.of.Tie as tie
-use borrow.Author.Tests.{ne-eqb}
 
 pub of-spec : {M : Type 1} → statement M
 of-spec =
@@ -13,4 +16,6 @@ of-spec =
     -- returns-2
     (λ c. rw (c .match .keys2))
     -- returns-3
-    (λ c. rw (ne-eqb (c .before .args .number) 1 (c .match .rest .0 .1), ne-eqb (c .before .args .number) 2 (c .match .rest .1))))
+    (λ c. rw (c .match .keys3))
+    -- returns-4
+    (λ c. sym (look-away the.M parts (c .before .args .number) (away-of-rest (c .before .args .number) (keys parts) (c .match .rest)))))

@@ -8,9 +8,11 @@ pub fresh-spec : {M : Type 1} → statement M
 fresh-spec =
     tie.close
     (tie.spec
-    -- enum-told, enum-told-2
-    (λ c. search needs) (λ c. search needs)
+    -- enum-told, enum-told-2, enum-told-3
+    (λ c. search needs) (λ c. search needs) (λ c. search needs)
     -- returns
     (λ c. rw (c .enum-told .given .1))
     -- returns-2
-    (λ c. rw (c .enum-told2 .given .1)))
+    (λ c. rw (c .enum-told2 .given .1))
+    -- returns-3
+    (λ c. rw (c .enum-told3 .given .1)))
