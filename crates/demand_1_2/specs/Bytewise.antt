@@ -41,7 +41,7 @@ pub record Bytewise (d : Device) (l : Lent) : Type 0 where
   pub unique : bytewise (d .identity .unique) ≡ true
   pub serial : bytewise (d .identity .serial) ≡ true
 
-byte-at : (bs : List ℕ) (i : ℕ) → bytewise bs ≡ true → getD bs i 0 < 256
+pub byte-at : (bs : List ℕ) (i : ℕ) → bytewise bs ≡ true → getD bs i 0 < 256
 unfolding bytewise
 byte-at [] i e = lit< tt
 byte-at (b ∷ bs) zero e = ltb-true b 256 (both-true (ltb b 256) (bytewise bs) e .0)

@@ -20,7 +20,7 @@ use Rattle.wires.specs.Bits.{gather}
 use Rattle.parts.specs.declared.Family.{Family}
 use Rattle.parts.specs.declared.Family.the-variants.{Mram, Psram}
 use Rattle.parts.specs.declared.Part.{Part}
-use Rattle.parts.specs.declared.Part.the-variants.{M, P}
+use Rattle.parts.specs.declared.Part.the-variants.{M, P, M32}
 use Rattle.parts.specs.Parts.{partOf, familyOf}
 use Rattle.kinds.specs.declared.Control.{Control}
 use Rattle.kinds.specs.declared.Control.the-variants.{NoOperation, WriteEnable, WriteDisable, ToOne, ToTwo, ToFour, Sleep, Wake, ResetEnable, Reset, Toggle}
@@ -496,3 +496,4 @@ fresh-kept m device unique = by (partOf (m .part))
     by : (p : Part) → validFor (familyOf p) p (record { make = m; registers = freshRegisters p; volatile = freshVolatile; identity = freshIdentity (familyOf p) device unique }) ≡ true
     by M = refl
     by P = refl
+    by M32 = refl

@@ -20,7 +20,7 @@ use Rattle.units.specs.declared.Bytes.{Bytes}
 use Rattle.parts.specs.declared.Family.{Family}
 use Rattle.parts.specs.declared.Family.the-variants.{Mram, Psram}
 use Rattle.parts.specs.declared.Part.{Part}
-use Rattle.parts.specs.declared.Part.the-variants.{M, P}
+use Rattle.parts.specs.declared.Part.the-variants.{M, P, M32}
 use Rattle.parts.specs.Parts.{familyOf, knownPart, leastOf, mostOf, offered}
 use Rattle.kinds.specs.declared.WriteForm.{WriteForm}
 use Rattle.kinds.specs.declared.Target.the-variants as Into
@@ -313,6 +313,7 @@ module _ (c : Chip) (r : Ready c) where
       least : (p : Part) → 9 ≤ leastOf p
       least M = lit≤ tt
       least P = lit≤ tt
+      least M32 = lit≤ tt
 
   burst-below : (e : List (List ℕ)) (i : Bytes) → burstOf s e .place i < 2 ^ s .n
   unfolding aimed

@@ -1,6 +1,6 @@
--- DEMAND 3 IS NOT EMPTY. Two lists of episodes that meet every premise, computed: on part M three of them, one that runs past the top of memory out of its protected
--- bytes, one into protected bytes alone, one beside them; on part P two, one of which laps its group of 16 bytes. Then a pair that shares one place, and whose order
--- shows.
+-- DEMAND 3 IS NOT EMPTY. Lists of episodes that meet every premise, computed: on part M three of them, one that runs past the top of memory out of its protected
+-- bytes, one into protected bytes alone, one beside them; on part P two, one of which laps its group of 16 bytes; on part M32 the first two of part M's, turned round.
+-- Then a pair that shares one place, and whose order shows.
 -- Assumes nothing.
 use mathlib.Core.Path.{_≡_, refl}
 use Prim.Native.Nat.{ℕ}
@@ -14,8 +14,9 @@ use Rattle.units.specs.declared.Wires.{Wires}
 use Rattle.units.specs.declared.Wires.the-variants.{One, Four}
 use Rattle.units.specs.Units.{clocksOf, byteClocks}
 use Rattle.wires.specs.Bits.{shiftOf, gatherFrom, spelled, spread, groupOf}
-use Rattle.parts.specs.declared.Part.the-variants.{M, P}
-use Rattle.parts.specs.Parts.{offered}
+use Rattle.parts.specs.declared.Part.{Part}
+use Rattle.parts.specs.declared.Part.the-variants.{M, P, M32}
+use Rattle.parts.specs.Parts.{areaOf, offered}
 use Rattle.kinds.specs.declared.WriteForm.the-variants as Writes
 use Rattle.opcodes.specs.Opcodes.{meaningOf}
 use Rattle.commands.specs.Registers.{mappedOf}
@@ -61,8 +62,15 @@ abbrev roomy : List (List (List ℕ)) → List (List Call)
 roomy l = map (λ (f : List (List ℕ)). map (λ (xs : List ℕ). record { samples = xs; room = replicate 80 0xFF }) f) l
 
 -- ---- part M, armed by accident, its top 16 bytes protected
+abbrev chipMram : Part → Chip
+chipMram p = record { device = armTo true (statusTo 0x04 (freshOf (makeOf p 10) (blank 8) (blank 8))); lent = record { memory = blank 1024; area = blank (areaOf p .0) } }
+
 abbrev chipM : Chip
-chipM = record { device = armTo true (statusTo 0x04 (freshOf (makeOf M 10) (blank 8) (blank 8))); lent = record { memory = blank 1024; area = blank 256 } }
+chipM = chipMram M
+
+-- and part M32 so
+abbrev chipM32 : Chip
+chipM32 = chipMram M32
 
 abbrev past-top : List (List ℕ)
 past-top = enables ∷ writes One 0x02 0x3FE (1 ∷ 2 ∷ 3 ∷ 4 ∷ []) ∷ []
@@ -75,6 +83,9 @@ beside = enables ∷ writes One 0x02 0x3EE (7 ∷ 8 ∷ []) ∷ []
 
 abbrev listM : List (List (List ℕ))
 listM = past-top ∷ protected ∷ beside ∷ []
+
+abbrev listM32 : List (List (List ℕ))
+listM32 = past-top ∷ protected ∷ []
 
 -- ---- part P in bus mode 4, groups of 16 bytes
 abbrev chipP : Chip
@@ -96,6 +107,10 @@ ready-M : Ready chipM
 unfolding shiftOf gatherFrom spelled groupOf spreadAll meaningOf mappedOf statusAllowed cr3Allowed cr4Allowed configurationsAllowed modeRegisterAllowed modeAllowed zeros mramRegisters psramRegisters mramVolatile psramVolatile mramIdentity psramIdentity validOf readSpan writeSpan placeIn shutMemory sectionShut protectedOf areaProtectedOf asleepFor refusedAt stopped decided commandClocks wiresFor addressClocks waitClocks bodyFor kindRead addressRead readingOf bytesIn dataBytes protectedAt putAt howMany allShut takeAll byteRead levelAt along judge unarmed latchMissing offered sizedFor roomFor sampled sentBytes factsOf storedBy outputOf over clockedOf transactOf
 ready-M = record { sized = refl; valid = refl; awake = refl }
 
+ready-M32 : Ready chipM32
+unfolding shiftOf gatherFrom spelled groupOf spreadAll meaningOf mappedOf statusAllowed cr3Allowed cr4Allowed configurationsAllowed modeRegisterAllowed modeAllowed zeros mramRegisters psramRegisters mramVolatile psramVolatile mramIdentity psramIdentity validOf readSpan writeSpan placeIn shutMemory sectionShut protectedOf areaProtectedOf asleepFor refusedAt stopped decided commandClocks wiresFor addressClocks waitClocks bodyFor kindRead addressRead readingOf bytesIn dataBytes protectedAt putAt howMany allShut takeAll byteRead levelAt along judge unarmed latchMissing offered sizedFor roomFor sampled sentBytes factsOf storedBy outputOf over clockedOf transactOf
+ready-M32 = record { sized = refl; valid = refl; awake = refl }
+
 ready-P : Ready chipP
 unfolding shiftOf gatherFrom spelled groupOf spreadAll meaningOf mappedOf statusAllowed cr3Allowed cr4Allowed configurationsAllowed modeRegisterAllowed modeAllowed zeros mramRegisters psramRegisters mramVolatile psramVolatile mramIdentity psramIdentity validOf readSpan writeSpan placeIn shutMemory sectionShut protectedOf areaProtectedOf asleepFor refusedAt stopped decided commandClocks wiresFor addressClocks waitClocks bodyFor kindRead addressRead readingOf bytesIn dataBytes protectedAt putAt howMany allShut takeAll byteRead levelAt along judge unarmed latchMissing offered sizedFor roomFor sampled sentBytes factsOf storedBy outputOf over clockedOf transactOf
 ready-P = record { sized = refl; valid = refl; awake = refl }
@@ -103,6 +118,10 @@ ready-P = record { sized = refl; valid = refl; awake = refl }
 enabling : Enabling chipM enables
 unfolding shiftOf gatherFrom spelled groupOf spreadAll meaningOf mappedOf statusAllowed cr3Allowed cr4Allowed configurationsAllowed modeRegisterAllowed modeAllowed zeros mramRegisters psramRegisters mramVolatile psramVolatile mramIdentity psramIdentity validOf readSpan writeSpan placeIn shutMemory sectionShut protectedOf areaProtectedOf asleepFor refusedAt stopped decided commandClocks wiresFor addressClocks waitClocks bodyFor kindRead addressRead readingOf bytesIn dataBytes protectedAt putAt howMany allShut takeAll byteRead levelAt along judge unarmed latchMissing offered sizedFor roomFor sampled sentBytes factsOf storedBy outputOf over clockedOf transactOf
 enabling = record { kind = refl; done = refl }
+
+enabling-M32 : Enabling chipM32 enables
+unfolding shiftOf gatherFrom spelled groupOf spreadAll meaningOf mappedOf statusAllowed cr3Allowed cr4Allowed configurationsAllowed modeRegisterAllowed modeAllowed zeros mramRegisters psramRegisters mramVolatile psramVolatile mramIdentity psramIdentity validOf readSpan writeSpan placeIn shutMemory sectionShut protectedOf areaProtectedOf asleepFor refusedAt stopped decided commandClocks wiresFor addressClocks waitClocks bodyFor kindRead addressRead readingOf bytesIn dataBytes protectedAt putAt howMany allShut takeAll byteRead levelAt along judge unarmed latchMissing offered sizedFor roomFor sampled sentBytes factsOf storedBy outputOf over clockedOf transactOf
+enabling-M32 = record { kind = refl; done = refl }
 
 episodes-M : Every (Episode chipM) listM
 unfolding aimed shiftOf gatherFrom spelled groupOf spreadAll meaningOf mappedOf statusAllowed cr3Allowed cr4Allowed configurationsAllowed modeRegisterAllowed modeAllowed zeros mramRegisters psramRegisters mramVolatile psramVolatile mramIdentity psramIdentity validOf readSpan writeSpan placeIn shutMemory sectionShut protectedOf areaProtectedOf asleepFor refusedAt stopped decided commandClocks wiresFor addressClocks waitClocks bodyFor kindRead addressRead readingOf bytesIn dataBytes protectedAt putAt howMany allShut takeAll byteRead levelAt along judge unarmed latchMissing offered sizedFor roomFor sampled sentBytes factsOf storedBy outputOf over clockedOf transactOf
@@ -127,6 +146,16 @@ episodes-P = (
   ),
 )
 
+episodes-M32 : Every (Episode chipM32) listM32
+unfolding aimed shiftOf gatherFrom spelled groupOf spreadAll meaningOf mappedOf statusAllowed cr3Allowed cr4Allowed configurationsAllowed modeRegisterAllowed modeAllowed zeros mramRegisters psramRegisters mramVolatile psramVolatile mramIdentity psramIdentity validOf readSpan writeSpan placeIn shutMemory sectionShut protectedOf areaProtectedOf asleepFor refusedAt stopped decided commandClocks wiresFor addressClocks waitClocks bodyFor kindRead addressRead readingOf bytesIn dataBytes protectedAt putAt howMany allShut takeAll byteRead levelAt along judge unarmed latchMissing offered sizedFor roomFor sampled sentBytes factsOf storedBy outputOf over clockedOf transactOf
+episodes-M32 = (
+  record { family = refl; enable = enabling-M32; write = record { few = refl; levels = refl; way = Writes.Plain; kind = refl; reach = refl; some = lit≤ tt } },
+  (
+    record { family = refl; enable = enabling-M32; write = record { few = refl; levels = refl; way = Writes.Plain; kind = refl; reach = refl; some = lit≤ tt } },
+    tt,
+  ),
+)
+
 apart-M : allDisjoint (settingOf (chipM .device)) listM ≡ true
 unfolding aimed placesFrom shiftOf gatherFrom spelled groupOf spreadAll meaningOf mappedOf statusAllowed cr3Allowed cr4Allowed configurationsAllowed modeRegisterAllowed modeAllowed zeros mramRegisters psramRegisters mramVolatile psramVolatile mramIdentity psramIdentity validOf readSpan writeSpan placeIn shutMemory sectionShut protectedOf areaProtectedOf asleepFor refusedAt stopped decided commandClocks wiresFor addressClocks waitClocks bodyFor kindRead addressRead readingOf bytesIn dataBytes protectedAt putAt howMany allShut takeAll byteRead levelAt along judge unarmed latchMissing offered sizedFor roomFor sampled sentBytes factsOf storedBy outputOf over clockedOf transactOf
 apart-M = refl
@@ -134,6 +163,10 @@ apart-M = refl
 apart-P : allDisjoint (settingOf (chipP .device)) listP ≡ true
 unfolding aimed placesFrom shiftOf gatherFrom spelled groupOf spreadAll meaningOf mappedOf statusAllowed cr3Allowed cr4Allowed configurationsAllowed modeRegisterAllowed modeAllowed zeros mramRegisters psramRegisters mramVolatile psramVolatile mramIdentity psramIdentity validOf readSpan writeSpan placeIn shutMemory sectionShut protectedOf areaProtectedOf asleepFor refusedAt stopped decided commandClocks wiresFor addressClocks waitClocks bodyFor kindRead addressRead readingOf bytesIn dataBytes protectedAt putAt howMany allShut takeAll byteRead levelAt along judge unarmed latchMissing offered sizedFor roomFor sampled sentBytes factsOf storedBy outputOf over clockedOf transactOf
 apart-P = refl
+
+apart-M32 : allDisjoint (settingOf (chipM32 .device)) listM32 ≡ true
+unfolding aimed placesFrom shiftOf gatherFrom spelled groupOf spreadAll meaningOf mappedOf statusAllowed cr3Allowed cr4Allowed configurationsAllowed modeRegisterAllowed modeAllowed zeros mramRegisters psramRegisters mramVolatile psramVolatile mramIdentity psramIdentity validOf readSpan writeSpan placeIn shutMemory sectionShut protectedOf areaProtectedOf asleepFor refusedAt stopped decided commandClocks wiresFor addressClocks waitClocks bodyFor kindRead addressRead readingOf bytesIn dataBytes protectedAt putAt howMany allShut takeAll byteRead levelAt along judge unarmed latchMissing offered sizedFor roomFor sampled sentBytes factsOf storedBy outputOf over clockedOf transactOf
+apart-M32 = refl
 
 -- SO DEMAND 3 SAYS SOMETHING OF THEM: for part M the list turned round, in longer buffers, for part P the two exchanged
 pub some-order-M : AnyOrder chipM (fitting listM) (roomy (beside ∷ protected ∷ past-top ∷ []))
@@ -148,6 +181,12 @@ pub some-order-P : AnyOrder chipP (fitting listP) (fitting (folded ∷ lapping �
 unfolding spelled spreadAll
 some-order-P =
     demand-3 chipP ready-P (List·Permᴰ·swap refl refl) ((refl, tt), ((refl, tt), tt)) ((refl, tt), ((refl, tt), tt)) episodes-P (pairwise-apart (settingOf (chipP .device)) listP apart-P)
+
+pub some-order-M32 : AnyOrder chipM32 (fitting listM32) (roomy (protected ∷ past-top ∷ []))
+unfolding spelled spreadAll
+some-order-M32 =
+    demand-3 chipM32 ready-M32 (List·Permᴰ·swap refl refl) ((refl, (refl, tt)), ((refl, (refl, tt)), tt)) ((refl, (refl, tt)), ((refl, (refl, tt)), tt))
+    episodes-M32 (pairwise-apart (settingOf (chipM32 .device)) listM32 apart-M32)
 
 -- ---- and it is what the rules compute
 abbrev memoryAt : Chip → List ℕ → List ℕ

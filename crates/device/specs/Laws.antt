@@ -12,7 +12,7 @@ use lib.Seq.{drop-cons}
 use borrow.Author.Tests.{lt-ltb, le-ltb, leb-true}
 use Rattle.basis.specs.Truth.{both-true}
 use Rattle.parts.specs.declared.Part.{Part}
-use Rattle.parts.specs.declared.Part.the-variants.{M, P}
+use Rattle.parts.specs.declared.Part.the-variants.{M, P, M32}
 use Rattle.parts.specs.Parts.{partOf, knownPart, leastOf, mostOf, offered}
 use Rattle.record.specs.declared.devices.Device.{Device}
 use Rattle.paper.specs.Storing.{Lent}
@@ -23,6 +23,7 @@ use Rattle.machine_stretches.specs.Stretches.{Passed}
 pub most-le : (p : Part) → mostOf p ≤ 24
 most-le M = lit≤ tt
 most-le P = lit≤ tt
+most-le M32 = lit≤ tt
 
 pub offered-reach : (p : Part) (n : ℕ) → offered p n ≡ true → n ≤ 24
 unfolding offered

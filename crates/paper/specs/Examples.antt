@@ -45,7 +45,7 @@ m = freshOf (makeOf M 10) (replicate 8 0) (replicate 8 0)
 abbrev p : Device
 p = freshOf (makeOf P 10) (replicate 8 0) (replicate 8 0)
 
-abbrev blank : ℕ → List ℕ
+abbrev pub blank : ℕ → List ℕ
 blank n = replicate n 0
 
 abbrev onM : List ℕ → Lent
@@ -55,21 +55,21 @@ abbrev onP : List ℕ → Lent
 onP memory = record { memory = memory; area = [] }
 
 -- a byte and an address on so many wires
-abbrev byte : Wires → ℕ → List ℕ
+abbrev pub byte : Wires → ℕ → List ℕ
 byte w b = spread w (byteClocks w) b
 
-abbrev address : Wires → ℕ → List ℕ
+abbrev pub address : Wires → ℕ → List ℕ
 address w a = spread w (clocksOf w addressBytes) a
 
-abbrev sent : Device → Lent → List ℕ → World
+abbrev pub sent : Device → Lent → List ℕ → World
 sent d l xs = transactOf d l xs (replicate (length xs) 0)
 
-abbrev answers : World → ℕ → List ℕ → Bool
+abbrev pub answers : World → ℕ → List ℕ → Bool
 answers r a five =
     eqb (answerNumber (r .answer)) a
     && same (r .counts .command .0 ∷ r .counts .address .0 ∷ r .counts .wait .0 ∷ r .counts .body .0 ∷ r .counts .rest .0 ∷ []) five
 
-abbrev memoryAt : World → List ℕ → List ℕ
+abbrev pub memoryAt : World → List ℕ → List ℕ
 memoryAt r places = map (λ i. getD (r .lent .memory) i 0) places
 
 -- the last sixteen places of such a memory
@@ -163,7 +163,7 @@ abbrev reads9F : ℕ → Order
 reads9F n = record { part = 1; opcode = 0x9F; mode = 1; address = 0; cr2 = 0; written = []; wanted = bytes n }
 
 -- a read that the host builds, sent to a device, and gathered from what it drives on the wires of its data
-abbrev asks : Device → Lent → ℕ → ℕ → ℕ → ℕ → ℕ → Told Bytes
+abbrev pub asks : Device → Lent → ℕ → ℕ → ℕ → ℕ → ℕ → Told Bytes
 asks d l opcode mode address wanted wires =
     let o : Order = record { part = d .make .part; opcode = opcode; mode = mode; address = address; cr2 = 0; written = []; wanted = bytes wanted } in
     let t = buildOf o (replicate 128 0xA5) in

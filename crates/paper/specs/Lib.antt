@@ -11,3 +11,4 @@ pub mod Building
 pub mod Collecting
 pub mod Laws
 pub mod Examples
+pub mod ExamplesM32
