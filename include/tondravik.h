@@ -1,6 +1,6 @@
-/* Tondravik for C: a serial MRAM (part M) and a serial PSRAM (part P), played clock by clock, and the host half
- * that builds samples and gathers bytes. C99. The archive, libcabi.a, is for x86-64 Linux, and wants nothing of the C
- * library but memset.
+/* Tondravik for C: two serial MRAMs (part M and part M32, of 32 Mbit) and a serial PSRAM (part P), played clock by
+ * clock, and the host half that builds samples and gathers bytes. C99. The archive, libcabi.a, is for x86-64 Linux, and
+ * wants nothing of the C library but memset.
  *
  * WHAT IS PROVED. Each function here is proved to leave exactly what its definition says, in its answer and in every
  * buffer that is lent to it, for any numbers and any bytes; it ends, reads and writes nothing outside the buffers, and
@@ -52,13 +52,13 @@ enum {
 };
 
 /* The parts. */
-enum { TONDRAVIK_PART_M = 1, TONDRAVIK_PART_P = 2 };
+enum { TONDRAVIK_PART_M = 1, TONDRAVIK_PART_P = 2, TONDRAVIK_PART_M32 = 3 };
 
 /* A chip is TONDRAVIK_CHIP bytes, all that it is but for its memory and its area. C may look at them and change them:
  * values that no chip has are answered 1 (part, n) or 3 (all others) by the next call. */
 enum {
     TONDRAVIK_AT_PART = 0,
-    TONDRAVIK_AT_N = 1, /* the memory has 2^n bytes, n from 10 to 21 */
+    TONDRAVIK_AT_N = 1, /* the memory has 2^n bytes, n from 10 to 21, on part M32 to 22 */
     TONDRAVIK_AT_STATUS = 2,
     TONDRAVIK_AT_AREA_PROTECTION = 3,
     TONDRAVIK_AT_CONFIGURATION_1 = 4, /* 2, 3 and 4 follow, one byte each */
@@ -68,14 +68,14 @@ enum {
     TONDRAVIK_AT_ARMED = 11,
     TONDRAVIK_AT_ASLEEP = 12,
     TONDRAVIK_AT_TOGGLE = 13,
-    TONDRAVIK_AT_DEVICE_IDENTITY = 14, /* eight bytes, byte 0 first; part M uses four of them, the others are 0 */
+    TONDRAVIK_AT_DEVICE_IDENTITY = 14, /* eight bytes, byte 0 first; an MRAM uses four of them, the others are 0 */
     TONDRAVIK_AT_UNIQUE_NUMBER = 22,   /* eight bytes */
     TONDRAVIK_AT_SERIAL_NUMBER = 30,   /* eight bytes */
     TONDRAVIK_CHIP = 38
 };
 
-/* The area of part M; part P has none, and its area is lent with length 0. */
-enum { TONDRAVIK_AREA_M = 256, TONDRAVIK_AREA_P = 0 };
+/* The bytes of each part's area; part P has none, and its area is lent with length 0. */
+enum { TONDRAVIK_AREA_M = 256, TONDRAVIK_AREA_P = 0, TONDRAVIK_AREA_M32 = 512 };
 
 /* The most clocks of one transaction. */
 enum { TONDRAVIK_CLOCKS = 65535 };
@@ -96,6 +96,10 @@ enum {
  * then as it was. Memory and area are C's to clear: a new chip's are all 0. */
 uint8_t tondravik_fresh_m(uint8_t n, const uint8_t *device, size_t device_length, const uint8_t *unique,
                           size_t unique_length, uint8_t *chip, size_t chip_length);
+
+/* The same of part M32, whose n is 10 to 22. */
+uint8_t tondravik_fresh_m32(uint8_t n, const uint8_t *device, size_t device_length, const uint8_t *unique,
+                            size_t unique_length, uint8_t *chip, size_t chip_length);
 
 /* A fresh chip of part P. `device` is its eight bytes of device identity. Answers as above. */
 uint8_t tondravik_fresh_p(uint8_t n, const uint8_t *device, size_t device_length, uint8_t *chip, size_t chip_length);

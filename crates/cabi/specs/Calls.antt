@@ -4,7 +4,8 @@ use mathlib.Core.Bool.{Bool, cond, _&&_}
 use mathlib.Core.List.{List, []}
 use lib.Dec.{eqb}
 use lib.ListN.{length, replicate}
-use Rattle.parts.specs.declared.Part.the-variants.{M, P}
+use Rattle.parts.specs.declared.Part.{Part}
+use Rattle.parts.specs.declared.Part.the-variants.{M, P, M32}
 use Rattle.parts.specs.Parts.{offered}
 use Rattle.counts.specs.Counts.{noCounts}
 use Rattle.record.specs.declared.answers.Answer.the-variants.{Done, Size, State}
@@ -31,8 +32,15 @@ abbrev pub made : Bool → Device → List ℕ → Made
 made fits d chip =
     cond (eqb (length chip) chipSize) (cond fits (madeAs (answerNumber Done) (bytesOf d)) (madeAs (answerNumber Size) chip)) (madeAs (answerNumber State) chip)
 
-unfoldable pub freshMIn : ℕ → List ℕ → List ℕ → List ℕ → Made
-freshMIn n device unique chip = made (offered M n && (eqb (length device) 4 && eqb (length unique) 8)) (freshOf (makeOf M n) device unique) chip
+-- a part of the MRAM, with four bytes of device identity and a unique number
+unfoldable pub freshMramIn : Part → ℕ → List ℕ → List ℕ → List ℕ → Made
+freshMramIn p n device unique chip = made (offered p n && (eqb (length device) 4 && eqb (length unique) 8)) (freshOf (makeOf p n) device unique) chip
+
+abbrev pub freshMIn : ℕ → List ℕ → List ℕ → List ℕ → Made
+freshMIn n device unique chip = freshMramIn M n device unique chip
+
+abbrev pub freshM32In : ℕ → List ℕ → List ℕ → List ℕ → Made
+freshM32In n device unique chip = freshMramIn M32 n device unique chip
 
 unfoldable pub freshPIn : ℕ → List ℕ → List ℕ → Made
 freshPIn n device chip = made (offered P n && eqb (length device) 8) (freshOf (makeOf P n) device (replicate 8 0)) chip

@@ -1,4 +1,4 @@
--- UNIQUE for the six calls from C, a line for each by its name. What their contracts show is the answer and every buffer as the call leaves it, as they are, so that there is nothing to find again.
+-- UNIQUE for the seven calls from C, a line for each by its name. What their contracts show is the answer and every buffer as the call leaves it, as they are, so that there is nothing to find again.
 -- Assumes nothing.
 use mathlib.Core.Path.{_≡_, refl}
 use mathlib.Core.List.{List}
@@ -6,7 +6,7 @@ use Prim.Native.Nat.{ℕ}
 use Rattle.basis.specs.Unique.{unique}
 use Rattle.paper.specs.Storing.{Lent}
 use Rattle.paper.specs.Building.{Order}
-use Rattle.cabi.specs.Calls.{Made, Call, freshMIn, freshPIn, transactIn, powerIn}
+use Rattle.cabi.specs.Calls.{Made, Call, freshMIn, freshM32In, freshPIn, transactIn, powerIn}
 use Rattle.cabi.specs.Fills.{Filled, buildIn, gatherIn}
 
 one : {L : Type 0} {x y v : L} → x ≡ v → y ≡ v → x ≡ y
@@ -14,6 +14,9 @@ one {L} = unique (λ (x : L). x) (λ (x : L). x) (λ x. refl)
 
 pub tondravik-fresh-m-unique : (n : ℕ) (device identity chip : List ℕ) {x y : Made} → x ≡ freshMIn n device identity chip → y ≡ freshMIn n device identity chip → x ≡ y
 tondravik-fresh-m-unique n device identity chip = one
+
+pub tondravik-fresh-m32-unique : (n : ℕ) (device identity chip : List ℕ) {x y : Made} → x ≡ freshM32In n device identity chip → y ≡ freshM32In n device identity chip → x ≡ y
+tondravik-fresh-m32-unique n device identity chip = one
 
 pub tondravik-fresh-p-unique : (n : ℕ) (device chip : List ℕ) {x y : Made} → x ≡ freshPIn n device chip → y ≡ freshPIn n device chip → x ≡ y
 tondravik-fresh-p-unique n device chip = one

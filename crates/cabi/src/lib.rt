@@ -4,9 +4,11 @@ ghost use mathlib.Core.Path.{_≡_};
 ghost use mathlib.Core.List.{[]};
 ghost use lib.ListN.{length};
 ghost use Rattle.units.specs.Units.{bytes};
+ghost use Rattle.parts.specs.declared.Family.the-variants.{Mram};
+ghost use Rattle.parts.specs.Parts.{familyOf};
 ghost use Rattle.contract_words.specs.Words.{lends};
 ghost use Rattle.chips.specs.Chips.{chipSize};
-ghost use Rattle.cabi.specs.Calls.{madeAs, freshMIn, freshPIn, callAs, outcomeTold, transactIn, powerIn};
+ghost use Rattle.cabi.specs.Calls.{madeAs, freshMramIn, freshMIn, freshM32In, freshPIn, callAs, outcomeTold, transactIn, powerIn};
 ghost use Rattle.cabi.specs.Fills.{filledAs, orderIn, buildIn, gatherIn};
 use chips::CHIP;
 use chips::COUNTS;
@@ -20,7 +22,6 @@ use chips::put_number;
 use counts::Counts;
 use host_order::Order;
 use parts::Part;
-use parts::PartM;
 use parts::PartP;
 use parts::is_offered;
 use record::Device;
@@ -36,15 +37,15 @@ const SIZE: u8 = 1;
 
 const STATE: u8 = 3;
 
-// A fresh chip of part M, with its four bytes of device identity and its unique number.
-#[no_mangle]
-pub extern "C" fn tondravik_fresh_m(n: u8, device: &[u8], unique: &[u8], chip: &mut [u8]) -> u8
-    ensures { λ r. ⌜ madeAs r (now (chip .exit)) ≡ freshMIn n (now (device .entry)) (now (unique .entry)) (now (chip .entry)) ⌝ }
+// A fresh chip of a part of the MRAM, with its four bytes of device identity and its unique number.
+fn fresh_mram(part: Part, n: u8, device: &[u8], unique: &[u8], chip: &mut [u8]) -> u8
+    requires { ⌜ familyOf part ≡ Mram ⌝ }
+    ensures { λ r. ⌜ madeAs r (now (chip .exit)) ≡ freshMramIn part n (now (device .entry)) (now (unique .entry)) (now (chip .entry)) ⌝ }
 {
     if chip.len() != CHIP {
         return STATE;
     }
-    if !is_offered(Part::M, n) {
+    if !is_offered(part, n) {
         return SIZE;
     }
     if device.len() != 4 {
@@ -55,11 +56,27 @@ pub extern "C" fn tondravik_fresh_m(n: u8, device: &[u8], unique: &[u8], chip: &
     }
     let eight = [device[0], device[1], device[2], device[3], 0, 0, 0, 0];
     let make = Make {
-        part: PartM::NUMBER,
+        part: part.number(),
         n,
     };
     put_chip(Device::fresh(make, eight, eight_at(unique, 0)), chip);
     DONE
+}
+
+// A fresh chip of part M.
+#[no_mangle]
+pub extern "C" fn tondravik_fresh_m(n: u8, device: &[u8], unique: &[u8], chip: &mut [u8]) -> u8
+    ensures { λ r. ⌜ madeAs r (now (chip .exit)) ≡ freshMIn n (now (device .entry)) (now (unique .entry)) (now (chip .entry)) ⌝ }
+{
+    fresh_mram(Part::M, n, device, unique, chip)
+}
+
+// A fresh chip of part M32.
+#[no_mangle]
+pub extern "C" fn tondravik_fresh_m32(n: u8, device: &[u8], unique: &[u8], chip: &mut [u8]) -> u8
+    ensures { λ r. ⌜ madeAs r (now (chip .exit)) ≡ freshM32In n (now (device .entry)) (now (unique .entry)) (now (chip .entry)) ⌝ }
+{
+    fresh_mram(Part::M32, n, device, unique, chip)
 }
 
 // A fresh chip of part P, with its eight bytes of device identity.

@@ -1,28 +1,17 @@
--- `cabi::tondravik_fresh_m` meets its contract: each way is a test of the definition.
+-- `cabi::tondravik_fresh_m` meets its contract: it is the family's call, for part M.
 -- Assumes nothing.
+use mathlib.Core.Path.{refl}
 use borrow.Author.Needs.{needs}
-use Rattle.chips.specs.Laws.{eight-whole}
-use Rattle.cabi.specs.Calls.{freshMIn}
-use borrow.Author.Tests.{not-true, not-false, eq-eqb, ne-eqb}
 use Rattle.cabi.proofs.tondravik_fresh_m.Statement.{statement}
 use Rattle.cabi.proofs.tondravik_fresh_m.Tie as tie
 
 pub tondravik-fresh-m-spec : {M : Type 1} → statement M
-unfolding freshMIn
 tondravik-fresh-m-spec =
     tie.close
     (tie.spec
+    -- fresh-mram-requires
+    (λ c κs. refl)
+    -- same-length
+    (λ c. search needs)
     -- returns
-    (λ c. rw (ne-eqb _ _ (c .if1 .taken)))
-    -- is-offered-requires
-    (λ c κs. tt)
-    -- returns-2
-    (λ c. rw (eq-eqb _ _ (c .before .before .if1 .left), ← c .before .is-offered .ensures, not-true (c .before .is-offered .result) (c .if2 .taken)))
-    -- returns-3
-    (λ c. rw (eq-eqb _ _ (c .before .before .before .if1 .left), ← c .before .before .is-offered .ensures, not-false (c .before .before .is-offered .result) (c .before .if2 .left), ne-eqb _ _ (c .if3 .taken)))
-    -- returns-4
-    (λ c. rw (eq-eqb _ _ (c .before .before .before .before .if1 .left), ← c .before .before .before .is-offered .ensures, not-false (c .before .before .before .is-offered .result) (c .before .before .if2 .left), eq-eqb _ _ (c .before .if3 .left), ne-eqb _ _ (c .if4 .taken)))
-    -- shared-slice-read-t11, shared-slice-read-t13, shared-slice-read-t15, shared-slice-read-t17, eight-at-requires, fresh-requires, put-chip-requires, same-length
-    (λ c. search needs) (λ c. search needs) (λ c. search needs) (λ c. search needs) (λ c κs. search needs) (λ c κs. tt) (λ c κs. search needs) (λ c. search needs)
-    -- returns-5
-    (λ c. rw (eq-eqb _ _ (c .before .before .before .before .before .before .before .before .before .before .before .before .before .before .if1 .left), ← c .before .before .before .before .before .before .before .before .before .before .before .before .before .is-offered .ensures, not-false (c .before .before .before .before .before .before .before .before .before .before .before .before .before .is-offered .result) (c .before .before .before .before .before .before .before .before .before .before .before .before .if2 .left), eq-eqb _ _ (c .before .before .before .before .before .before .before .before .before .before .before .if3 .left), eq-eqb _ _ (c .before .before .before .before .before .before .before .before .before .before .if4 .left), c .before .before .put-chip .ensures, c .before .before .before .before .fresh .ensures, c .before .before .before .before .before .eight-at .ensures, eight-whole (c .before .before .before .before .before .before .before .before .before .before .before .before .before .before .before .before .before .before .args .unique .now) (c .before .before .before .before .before .before .before .before .before .before .if4 .left))))
+    (λ c. c .before .before .fresh-mram .ensures))
