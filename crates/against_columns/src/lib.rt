@@ -13,6 +13,7 @@ use text::put_all;
 use text::put_bytes;
 use text::put_decimal;
 use text::put_hex;
+use text::put_word;
 
 // The number of a call, its answer and its five counts.
 pub fn call_columns(text: &mut [u8], at: usize, k: u64, r: Outcome) -> usize {
@@ -74,15 +75,15 @@ pub fn state_columns(text: &mut [u8], at: usize, d: Device) -> usize {
     registers(text, c, d)
 }
 
-// The letter of the part.
+// The name of the part.
 fn part(text: &mut [u8], at: usize, d: Device) -> usize {
     let p = Part::of(d.make.part);
-    let letter = match p {
-        Part::M => b'M',
-        Part::P => b'P',
+    let n = match p {
+        Part::M => 0,
+        Part::P => 1,
+        Part::M32 => 2,
     };
-    let a = put(text, at, b' ');
-    put(text, a, letter)
+    put_word(text, at, b" M| P| M32", n)
 }
 
 // The chip: its part, its state, its serial number.

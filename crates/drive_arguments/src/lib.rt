@@ -4,6 +4,9 @@ use digits::Number;
 use digits::is_paired;
 use digits::number_in;
 use digits::put_pairs;
+use parts::PartM;
+use parts::PartM32;
+use parts::PartP;
 use text::is_same;
 
 // What was asked so far. `due` is the number of the word that comes next: 1 to 4 for part, opcode, mode and address,
@@ -30,7 +33,7 @@ pub fn nothing_asked() -> Asked {
         opcode: 0,
         mode: 0,
         address: 0,
-        wait: 8,
+        wait: PartM::FRESH_CR2,
         wanted: 0,
         written: 0,
         tape: false,
@@ -63,15 +66,26 @@ fn hex_in(word: &[u8], digits: usize) -> Number {
 }
 
 // The part of a letter, 0 where there is none.
-fn part_in(word: &[u8]) -> u8 {
-    if word.len() != 1 {
-        return 0;
-    }
-    match word[0] {
-        b'M' | b'm' => 1,
-        b'P' | b'p' => 2,
+fn part_of_letter(letter: u8) -> u8 {
+    match letter {
+        b'M' | b'm' => PartM::NUMBER,
+        b'P' | b'p' => PartP::NUMBER,
         _ => 0,
     }
+}
+
+// The part of a name, 0 where there is none.
+fn part_in(word: &[u8]) -> u8 {
+    if word.len() == 1 {
+        return part_of_letter(word[0]);
+    }
+    if is_same(word, b"M32") {
+        return PartM32::NUMBER;
+    }
+    if is_same(word, b"m32") {
+        return PartM32::NUMBER;
+    }
+    0
 }
 
 fn take_part(mut a: Asked, word: &[u8]) -> Asked {

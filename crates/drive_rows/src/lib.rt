@@ -16,6 +16,7 @@ use list_views::View;
 use list_views::data_from;
 use list_views::sum;
 use list_views::view_of;
+use parts::Part;
 use plan_in_force::address_length;
 use record::Device;
 use record::Make;
@@ -55,7 +56,7 @@ fn counts_of(o: Order, k: Kind, all: Clocks) -> Counts {
 fn chip_for(o: Order) -> Device {
     let make = Make {
         part: o.part,
-        n: 10,
+        n: Part::of(o.part).least(),
     };
     Device::fresh(make, [0; 8], [0; 8]).in_mode(o.mode)
 }

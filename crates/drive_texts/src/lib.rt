@@ -26,7 +26,7 @@ fn put_usage(page: &mut [u8], at: usize) -> usize {
         page,
         at,
         b"drive PART OPCODE MODE ADDRESS [--read N] [--write HEX] [--wait HEX] [--tape [--fresh N]]\n\
-        \x20 PART is M or P, OPCODE hexadecimal, MODE 1, 2 or 4 wires, ADDRESS hexadecimal or - for none\n\
+        \x20 PART is M, M32 or P, OPCODE hexadecimal, MODE 1, 2 or 4 wires, ADDRESS hexadecimal or - for none\n\
         \x20 --read N     so many bytes to read, in decimal\n\
         \x20 --write HEX  the bytes to write, two digits each\n\
         \x20 --wait HEX   configuration 2, the wait of 4B; 8 without it, as in a fresh chip\n\
@@ -40,7 +40,7 @@ fn put_due(page: &mut [u8], at: usize, due: u8) -> usize {
     put_word(
         page,
         at,
-        b"|PART is M or P\
+        b"|PART is M, M32 or P\
         |OPCODE is one or two hexadecimal digits\
         |MODE is 1, 2 or 4\
         |ADDRESS is up to eight hexadecimal digits, or - for none\

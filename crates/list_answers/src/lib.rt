@@ -95,7 +95,7 @@ fn put_refused(page: &mut [u8], at: usize, k: Kind) -> usize {
         at,
         b"the command has no address.\n\
         |the address is past the end of the memory.\n\
-        |the address is past the 256 bytes of the area.\n\
+        |the address is past the end of the area.\n\
         |no register has this address.\n\
         |the low four bits of the address are not 0.\n\
         |the address is ignored.\n",

@@ -42,7 +42,7 @@ fn put_why(page: &mut [u8], at: usize, e: Entry, tape: &[u8], offset: usize) -> 
         b"|the kind is unknown, there are 1, 2 and 3.\n\
         |the payload is wrong, a transaction has at most 4096 samples.\n\
         |the payload is wrong, a power cycle has none.\n\
-        |the payload is wrong, a fresh chip has a part, 1 or 2, and n, 10 to 15.\n\
+        |the payload is wrong, a fresh chip has a part, 1, 2 or 3, and n, 10 to 15.\n\
         |a transaction, and no chip is in the socket yet.\n\
         |a power cycle, and no chip is in the socket yet.\n\
         |no bench has room for this chip.\n",

@@ -15,8 +15,9 @@ pub fn put_part(page: &mut [u8], at: usize, p: Part) -> usize {
     let n = match p {
         Part::M => 0,
         Part::P => 1,
+        Part::M32 => 2,
     };
-    put_word(page, at, b"part M|part P", n)
+    put_word(page, at, b"part M|part P|part M32", n)
 }
 
 pub fn put_wires(page: &mut [u8], at: usize, w: Wires) -> usize {

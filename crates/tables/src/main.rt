@@ -1,5 +1,5 @@
-// Prints the tables of docs/MODEL.md from the code that is proved equal to the definitions: the commands of both parts,
-// part M's register map, and the lengths and shares by register value. A row is a function of its own.
+// Prints the tables of docs/MODEL.md from the code that is proved equal to the definitions: the limits of the parts, the
+// commands of each family, the register maps, and the lengths and shares by register value. A row is a function of its own.
 use commands::plans::Address;
 use commands::plans::Body;
 use commands::plans::address_of;
@@ -17,6 +17,7 @@ use opcodes::kind_of;
 use parts::Family;
 use parts::Part;
 use parts::PartM;
+use parts::PartM32;
 use parts::group_length;
 use parts::share;
 use parts::wrap_length;
@@ -160,6 +161,7 @@ fn put_command(page: &mut [u8], f: Family, opcode: u8, k: Kind) -> usize {
     put_modes(page, d, f, opcode)
 }
 
+// A command of a family; the size of its data is that of a part of it.
 fn command_row(page: &mut [u8], p: Part, opcode: u8) {
     let f = p.family();
     let k = kind_in(f, opcode);
@@ -173,15 +175,53 @@ fn command_row(page: &mut [u8], p: Part, opcode: u8) {
     flush(page, d);
 }
 
-fn put_commands(page: &mut [u8], p: Part) {
+fn put_commands(page: &mut [u8], parts: &[u8]) {
     let a = put_all(page, 0, b"\n### Commands of ");
-    let b = put_part(page, a, p);
+    let b = put_all(page, a, parts);
     let c = put_all(
         page,
         b,
         b"\n\n| opcode | command | bus modes | all but the command on | address | wait in each mode, clocks | data, bytes |\n|---|---|---|---|---|---|---|\n",
     );
     flush(page, c);
+}
+
+// ---- the parts
+
+// A number, and the bar behind it.
+fn put_cell(page: &mut [u8], at: usize, n: u64) -> usize {
+    let a = put_decimal(page, at, n);
+    put_all(page, a, b" | ")
+}
+
+fn put_limits(page: &mut [u8], at: usize, p: Part) -> usize {
+    let a = put_cell(page, at, p.least() as u64);
+    let b = put_cell(page, a, p.most() as u64);
+    let c = put_cell(page, b, p.area().in_bytes() as u64);
+    let d = put_cell(page, c, p.section().in_bytes() as u64);
+    put_decimal(page, d, p.wrap_codes() as u64)
+}
+
+fn part_row(page: &mut [u8], number: u8) {
+    if !Part::is_known(number) {
+        return;
+    }
+    let p = Part::of(number);
+    let a = put_all(page, 0, b"| ");
+    let b = put_cell(page, a, number as u64);
+    let c = put_part(page, b, p);
+    let d = put_all(page, c, b" | ");
+    let e = put_limits(page, d, p);
+    let f = put_all(page, e, b" |\n");
+    flush(page, f);
+}
+
+// The parts that have a row which part M32 has: part M has it too, or not.
+fn put_holders(page: &mut [u8], at: usize, too: bool) -> usize {
+    if too {
+        return put_all(page, at, b" | M, M32 | ");
+    }
+    put_all(page, at, b" | M32 | ")
 }
 
 // ---- the register map
@@ -193,17 +233,22 @@ fn mapped_kind(m: Mapped) -> Kind {
     }
 }
 
+fn kind_at(p: Part, address: u32) -> Kind {
+    mapped_kind(register_at(p, address))
+}
+
+// A register of part M32, whose map has all that part M's has.
 fn map_row(page: &mut [u8], address: u32) {
-    let k = mapped_kind(register_at(Part::M, address));
+    let k = kind_at(Part::M32, address);
     if is_unknown(k) {
         return;
     }
     let a = put_all(page, 0, b"| ");
     let b = put_hex(page, a, address as u64, 6);
-    let c = put_all(page, b, b" | ");
+    let c = put_holders(page, b, !is_unknown(kind_at(Part::M, address)));
     let d = put_kind(page, c, k);
     let e = put_all(page, d, b" ");
-    let f = put_body(page, e, body_of(Part::M, k, 0));
+    let f = put_body(page, e, body_of(Part::M32, k, 0));
     flush(page, f);
 }
 
@@ -218,25 +263,28 @@ fn number_row(page: &mut [u8], code: u64, n: u64) {
     flush(page, e);
 }
 
+// A code of the groups of part M32, which has all that part M has.
+fn wrap_row(page: &mut [u8], code: u8) {
+    let a = put_all(page, 0, b"| ");
+    let b = put_decimal(page, a, code as u64);
+    let c = put_holders(page, b, code < PartM::WRAP_CODES);
+    let d = put_decimal(page, c, wrap_length(code).in_bytes() as u64);
+    let e = put_all(page, d, b" |\n");
+    flush(page, e);
+}
+
 // Row `i` of a table, as far as there is one.
 fn row(page: &mut [u8], table: u8, i: u32) {
     let b = (i % 256) as u8;
-    if table == 0 {
-        return command_row(page, Part::M, b);
+    match table {
+        0 => command_row(page, Part::M, b),
+        1 => command_row(page, Part::P, b),
+        2 => map_row(page, i),
+        3 => number_row(page, i as u64, share(b % 8 * 4) as u64),
+        4 => wrap_row(page, b),
+        5 => part_row(page, b),
+        _ => number_row(page, i as u64, group_length(b % 4 * 32).in_bytes() as u64),
     }
-    if table == 1 {
-        return command_row(page, Part::P, b);
-    }
-    if table == 2 {
-        return map_row(page, i);
-    }
-    if table == 3 {
-        return number_row(page, i as u64, share(b % 8 * 4) as u64);
-    }
-    if table == 4 {
-        return number_row(page, i as u64, wrap_length(b).in_bytes() as u64);
-    }
-    number_row(page, i as u64, group_length(b % 4 * 32).in_bytes() as u64);
 }
 
 fn rows(page: &mut [u8], table: u8, n: u32) {
@@ -254,28 +302,33 @@ fn head(page: &mut [u8], text: &[u8]) {
 
 fn main() {
     let mut page = [0u8; 512];
-    put_commands(&mut page, Part::M);
+    head(
+        &mut page,
+        b"\n### Parts\n\n| number | part | n from | n to | area, bytes | section, bytes | codes of groups |\n|---|---|---|---|---|---|---|\n",
+    );
+    rows(&mut page, 5, 4);
+    put_commands(&mut page, b"parts M and M32");
     rows(&mut page, 0, 256);
-    put_commands(&mut page, Part::P);
+    put_commands(&mut page, b"part P");
     rows(&mut page, 1, 256);
     head(
         &mut page,
-        b"\n### Registers by address, for 65\n\n| address | register | data, bytes |\n|---|---|---|\n",
+        b"\n### Registers by address, for 65\n\n| address | on part | register | data, bytes |\n|---|---|---|---|\n",
     );
     rows(&mut page, 2, 256);
     head(
         &mut page,
-        b"\n### Protected memory, by status bits 4 to 2\n\n| code | 64ths |\n|---|---|\n",
+        b"\n### Protected memory of parts M and M32, by status bits 4 to 2\n\n| code | 64ths |\n|---|---|\n",
     );
     rows(&mut page, 3, 8);
     head(
         &mut page,
-        b"\n### Groups of part M's reads, by CR3[2:0]\n\n| code | bytes |\n|---|---|\n",
+        b"\n### Groups of reads of parts M and M32, by CR3[2:0]\n\n| code | on part | bytes |\n|---|---|---|\n",
     );
-    rows(&mut page, 4, PartM::WRAP_CODES as u32);
+    rows(&mut page, 4, PartM32::WRAP_CODES as u32);
     head(
         &mut page,
         b"\n### Groups of part P, by MR0[6:5]\n\n| code | bytes |\n|---|---|\n",
     );
-    rows(&mut page, 5, 4);
+    rows(&mut page, 6, 4);
 }
