@@ -4,14 +4,14 @@
 use crate::answer::Answer::{self, Address, Long, Reserved, Short, Size, Unknown};
 use crate::device::MOST_CLOCKS;
 use crate::faults::{bytes_of, clocks_of, OF_BUILD, PAIRS_OF_BUILD};
-use crate::parts::{another, Part, FIRST_FREE_NUMBER, P, PARTS};
+use crate::parts::{strangers, Part, FIRST_FREE_NUMBER, P, PARTS};
 use crate::request::{Call, Request};
 use crate::rng::Rng;
 use crate::table::{look_up, Command, Data, Wait};
 use crate::wires::{can_be_driven, clocks_for_bits, clocks_for_bytes, drive};
 
 /// One request in so many is about the most clocks; their buffers are large.
-const BORDER_EVERY: usize = 110;
+const BORDER_EVERY: usize = 85;
 /// Numbers that no transaction can hold. Some of them give only a few clocks in
 /// 16 or 32 bits.
 const HUGE: [u32; 8] = [
@@ -196,7 +196,7 @@ impl Asker {
             }
         }
         let area = |known: &&Known| known.command.wait == Wait::Configuration2;
-        if let Some(&known) = reads.iter().find(area) {
+        for &known in reads.iter().filter(area) {
             // 65,534, 65,535 and 65,536 clocks.
             for (configuration2, more_bytes) in [(6, 0), (7, 0), (8, 1)] {
                 self.borders.push(Border {
@@ -426,7 +426,7 @@ fn pick_room(rng: &mut Rng, request: &Request, known: &Known, short: bool) -> us
 /// unknown command.
 fn make_unknown(rng: &mut Rng, request: &mut Request, any_opcode: bool) {
     let good = request.clone();
-    let other = another(good.part_or_wires);
+    let stranger = rng.pick(&strangers(good.part_or_wires));
     let free = FIRST_FREE_NUMBER;
     for _ in 0..8 {
         request.part_or_wires = good.part_or_wires;
@@ -436,9 +436,9 @@ fn make_unknown(rng: &mut Rng, request: &mut Request, any_opcode: bool) {
             0 => request.part_or_wires = rng.pick(&[0, free, free, free + 1, 255]),
             1 | 2 => request.mode = rng.pick(&[0, 3, 5, 6, 8, 255]),
             3 => request.mode = rng.pick(&[1, 2, 2, 4]),
-            4 => request.part_or_wires = other.number,
+            4 => request.part_or_wires = stranger.number,
             5 => request.opcode = rng.byte(),
-            6 => request.opcode = rng.pick(&other.opcodes()),
+            6 => request.opcode = rng.pick(&stranger.opcodes()),
             7 => request.opcode ^= 1 << rng.below(8),
             _ => {
                 // A mode that another part has.

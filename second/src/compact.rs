@@ -77,7 +77,7 @@ fn line(step: &Step) -> String {
         step.number,
         step.answer,
         step.counts,
-        step.chip.part.letter,
+        step.chip.part.word,
         record.n,
         record.mode,
         flags(record),

@@ -124,7 +124,7 @@ pub fn pick_address(
             }
         }
         (Family::Psram, 0xB5 | 0xB1) => {
-            let low = if drawn < 3 { 1 + rng.below(15) } else { 0 };
+            let low = if drawn < 4 { 1 + rng.below(15) } else { 0 };
             if drawn < 12 {
                 low
             } else {

@@ -10,14 +10,17 @@ use crate::answer::Class;
 use crate::ask::request_list;
 use crate::compact::take_tape;
 use crate::device::Record;
+use crate::edges::{self, Edge, Sent};
 use crate::faults::{faults, OF_BUILD, PAIRS_OF_BUILD, PAIRS_OF_GATHER};
-use crate::generate::bundle;
-use crate::latched::{Reached, Seen};
-use crate::parts::PARTS;
+use crate::generate::{bad_chips, bundle};
+use crate::latched::{self, Seen};
+use crate::limits;
+use crate::parts::{Family, Part, FIRST_FREE_NUMBER, PARTS};
 use crate::probe::Call;
 use crate::request;
+use crate::rows::{self, Row};
 use crate::spoil::probe_list;
-use crate::tape::{run, Entry};
+use crate::tape::{run, Ending, Entry, MOST_TAPE_BYTES};
 use crate::wires::{clocks_for_bits, collect};
 
 /// Answers that a tape can show. 1 and 3 need a record or a buffer that the
@@ -37,6 +40,18 @@ const ON_BUILD: [Answer; 7] = [Done, Size, Short, Unknown, Address, Reserved, Lo
 /// Answers that a gathering can give.
 const ON_GATHER: [Answer; 4] = [Done, Size, Sample, Unknown];
 
+/// Whether a part can give this answer at all. The PSRAM neither sleeps nor
+/// protects, and it has no latch.
+fn can_answer(part: &Part, answer: Answer) -> bool {
+    part.family == Family::Mram || !matches!(answer, Asleep | Latch | Protected)
+}
+
+/// Whether a build for a part can have this answer at all. Configuration 2 is the
+/// MRAM's.
+fn can_refuse(part: &Part, answer: Answer) -> bool {
+    part.family == Family::Mram || answer != Reserved
+}
+
 /// Part number, bus mode and opcode of a command.
 type Pair = (u8, u8, u8);
 
@@ -44,6 +59,8 @@ type Pair = (u8, u8, u8);
 #[derive(Default)]
 struct Tally {
     answers: BTreeMap<Answer, u64>,
+    /// The same by part number.
+    by_part: BTreeMap<(u8, Answer), u64>,
     sent: BTreeMap<Pair, u64>,
     done: BTreeMap<Pair, u64>,
 }
@@ -52,7 +69,7 @@ impl Tally {
     /// Counts one transaction that a record got. A command counts as sent when
     /// all its bits arrived at a chip that was awake (AB counts asleep too).
     fn add(&mut self, before: &Record, samples: &[u8], answer: Answer) {
-        *self.answers.entry(answer).or_default() += 1;
+        self.add_answer(before.part, answer);
         if answer.class() == Class::Refused {
             return;
         }
@@ -69,6 +86,39 @@ impl Tally {
         if answer == Done {
             *self.done.entry(pair).or_default() += 1;
         }
+    }
+
+    fn add_answer(&mut self, part: u8, answer: Answer) {
+        *self.answers.entry(answer).or_default() += 1;
+        *self.by_part.entry((part, answer)).or_default() += 1;
+    }
+
+    /// Adds the count of every answer that each part can show; tells whether all
+    /// were.
+    fn show_answers_by_part(
+        &self,
+        kind: &str,
+        wanted: &[Answer],
+        can: fn(&Part, Answer) -> bool,
+        text: &mut String,
+    ) -> bool {
+        let mut list = Vec::new();
+        for part in PARTS {
+            let wanted = wanted.iter().filter(|&&answer| can(part, answer));
+            list.extend(wanted.map(|&answer| {
+                Row {
+                    part,
+                    kind: String::from(kind),
+                    word: answer.to_string(),
+                    count: self
+                        .by_part
+                        .get(&(part.number, answer))
+                        .copied()
+                        .unwrap_or(0),
+                }
+            }));
+        }
+        rows::show(&list, text)
     }
 
     /// Adds the count of every answer that can be shown; tells whether all were.
@@ -108,7 +158,7 @@ impl Tally {
                 all &= missed.is_empty();
                 *text += &format!(
                     "part {} mode {mode}: {} of {} commands built; missed: {}\n  answered 0:",
-                    part.letter,
+                    part.word,
                     table.len() - missed.len(),
                     table.len(),
                     list(&missed),
@@ -154,7 +204,7 @@ impl Tally {
                 all &= missed.is_empty() && never_done.is_empty() && outside > 0;
                 *text += &format!(
                     "part {} mode {mode}: {} of {} table opcodes sent; missed: {}\n",
-                    part.letter,
+                    part.word,
                     table.len() - missed.len(),
                     table.len(),
                     list(&missed),
@@ -193,12 +243,65 @@ fn verdict(complete: bool) -> &'static str {
     }
 }
 
+/// Fresh chips on tapes: those that ended a tape, and the power cycles that took
+/// something back from one.
+#[derive(Default)]
+struct Chips {
+    /// By payload.
+    bad: BTreeMap<[u8; 2], u64>,
+    /// By part number.
+    power_cycles: BTreeMap<u8, u64>,
+}
+
+impl Chips {
+    /// Counts the record that ended a tape if it is a whole fresh chip: two bytes of
+    /// payload, kind 3.
+    fn add_bad(&mut self, record: &[u8]) {
+        if let [2, 0, 3, 0, part, n, ..] = *record {
+            *self.bad.entry([part, n]).or_default() += 1;
+        }
+    }
+
+    fn add_power_cycle(&mut self, before: &Record, after: &Record) {
+        if before != after {
+            *self.power_cycles.entry(after.part).or_default() += 1;
+        }
+    }
+
+    /// Adds the counts of both; tells whether none is missing.
+    fn show(&self, text: &mut String) -> bool {
+        let mut all = true;
+        let mut words = Vec::new();
+        for [part, n] in bad_chips() {
+            let count = self.bad.get(&[part, n]).copied().unwrap_or(0);
+            all &= count > 0;
+            words.push(format!("{part} {n}={count}"));
+        }
+        *text += &format!(
+            "fresh chips that end a tape, part and n: {}\n",
+            words.join(", ")
+        );
+        let list: Vec<Row> = PARTS
+            .into_iter()
+            .map(|part| Row {
+                part,
+                kind: String::from("power cycles"),
+                word: String::from("took something back"),
+                count: self.power_cycles.get(&part.number).copied().unwrap_or(0),
+            })
+            .collect();
+        rows::show(&list, text) && all
+    }
+}
+
 /// Makes a bundle, runs it and tells what it reached.
 pub fn of_bundle(seed: u64, tapes: usize, records: usize) -> (String, bool) {
     let bytes = bundle(seed, tapes, records);
     let mut left = &bytes[..];
     let mut tally = Tally::default();
-    let mut latched = Reached::default();
+    let mut latched = latched::Reached::default();
+    let mut edges = edges::Reached::default();
+    let mut chips = Chips::default();
     let (mut all_records, mut transactions, mut clocks) = (0u64, 0u64, 0u64);
     let (mut power_cycles, mut fresh_chips) = (0u64, 0u64);
     let (mut ends, mut bads) = (0u64, 0u64);
@@ -207,20 +310,31 @@ pub fn of_bundle(seed: u64, tapes: usize, records: usize) -> (String, bool) {
         let ending = run(tape, &mut |step| {
             all_records += 1;
             seen.push(Seen::new(step));
+            let chip = step.chip;
             match (step.entry, &step.before) {
                 (Entry::Transaction(samples), Some(before)) => {
                     transactions += 1;
                     clocks += samples.len() as u64;
                     tally.add(before, samples, step.answer);
+                    let sent = Sent::new(before, samples, step.answer, &chip.memory, &chip.area);
+                    edges.add(sent.as_ref());
                 }
-                (Entry::PowerCycle, _) => power_cycles += 1,
+                (Entry::PowerCycle, Some(before)) => {
+                    power_cycles += 1;
+                    chips.add_power_cycle(before, &chip.record);
+                }
                 _ => fresh_chips += 1,
             }
         });
         latched.add_tape(&seen);
         match ending {
-            crate::tape::Ending::End(_) => ends += 1,
-            crate::tape::Ending::Bad(_) => bads += 1,
+            Ending::End(_) => ends += 1,
+            Ending::Bad(offset) => {
+                bads += 1;
+                if tape.len() <= MOST_TAPE_BYTES {
+                    chips.add_bad(&tape[offset..]);
+                }
+            }
         }
     }
     let mut text = format!(
@@ -229,12 +343,16 @@ pub fn of_bundle(seed: u64, tapes: usize, records: usize) -> (String, bool) {
     );
     let mut complete = tally.show_answers("transactions by answer:", &ON_TAPE, &mut text);
     text += "  a tape can never show 1 (its sizes are always right) or 3 (its records are always valid)\n";
+    complete &= tally.show_answers_by_part("answers", &ON_TAPE, can_answer, &mut text);
+    complete &= chips.show(&mut text);
     complete &= tally.show_pairs(&mut text);
     complete &= latched.show(
         "writes with the latch up, a status read right behind \
          (and a memory write behind that, of a register write answered 0):",
         &mut text,
     );
+    text += "at the limits of a part:\n";
+    complete &= rows::show(&edges.rows(Edge::on_tapes), &mut text);
     text += verdict(complete);
     (text, complete)
 }
@@ -242,30 +360,41 @@ pub fn of_bundle(seed: u64, tapes: usize, records: usize) -> (String, bool) {
 /// Makes probes, runs them and tells what they reached.
 pub fn of_probes(seed: u64, count: usize) -> (String, bool) {
     let mut transactions = Tally::default();
-    let mut latched = Reached::default();
+    let mut latched = latched::Reached::default();
+    let mut edges = edges::Reached::default();
+    let mut limits = limits::Reached::default();
     let mut power_cycles = Tally::default();
     let mut clocks = 0u64;
     let mut most_clocks = 0;
     for probe in probe_list(seed, count) {
         let outcome = probe.run();
+        let (record, samples, answer) = (&probe.record, &probe.samples, outcome.answer);
+        limits.add(&probe, answer);
         match probe.call {
             Call::Transact => {
-                clocks += probe.samples.len() as u64;
-                most_clocks = most_clocks.max(probe.samples.len());
-                transactions.add(&probe.record, &probe.samples, outcome.answer);
-                latched.add_call(&probe.record, &probe.samples, outcome.answer);
+                clocks += samples.len() as u64;
+                most_clocks = most_clocks.max(samples.len());
+                transactions.add(record, samples, answer);
+                latched.add_call(record, samples, answer);
+                let sent = Sent::new(record, samples, answer, &outcome.memory, &outcome.area);
+                edges.add(sent.as_ref());
             }
-            Call::PowerCycle => {
-                *power_cycles.answers.entry(outcome.answer).or_default() += 1;
-            }
+            Call::PowerCycle => power_cycles.add_answer(record.part, answer),
         }
     }
     let mut text = format!("probes {count}\nclocks {clocks}, most in one {most_clocks}\n");
     let mut complete =
         transactions.show_answers("transactions by answer:", &ON_TRANSACTION, &mut text);
+    complete &=
+        transactions.show_answers_by_part("answers", &ON_TRANSACTION, can_answer, &mut text);
     complete &= power_cycles.show_answers("power cycles by answer:", &ON_POWER_CYCLE, &mut text);
+    complete &=
+        power_cycles.show_answers_by_part("answers", &ON_POWER_CYCLE, can_answer, &mut text);
     complete &= transactions.show_pairs(&mut text);
     complete &= latched.show("writes with the latch up:", &mut text);
+    text += "at the limits of a part:\n";
+    complete &= rows::show(&edges.rows(Edge::on_probes), &mut text);
+    complete &= rows::show(&limits.rows(), &mut text);
     text += verdict(complete);
     (text, complete)
 }
@@ -323,7 +452,7 @@ pub fn of_requests(seed: u64, count: usize) -> (String, bool) {
                 (&mut gathers, &mut behind_gather)
             }
         };
-        *tally.answers.entry(outcome.answer).or_default() += 1;
+        tally.add_answer(request.part_or_wires, outcome.answer);
         if outcome.answer == Done {
             let pair = (request.part_or_wires, request.mode, request.opcode);
             *tally.done.entry(pair).or_default() += 1;
@@ -339,6 +468,12 @@ pub fn of_requests(seed: u64, count: usize) -> (String, bool) {
         all(&gathers),
     );
     let mut complete = builds.show_answers("build by answer:", &ON_BUILD, &mut text);
+    complete &= builds.show_answers_by_part("answers", &ON_BUILD, can_refuse, &mut text);
+    for number in [0, FIRST_FREE_NUMBER] {
+        let count = builds.by_part.get(&(number, Unknown)).copied().unwrap_or(0);
+        complete &= count > 0;
+        text += &format!("  no part {number}: 5={count}\n");
+    }
     complete &= gathers.show_answers("gather by answer:", &ON_GATHER, &mut text);
     complete &= builds.show_built(&mut text);
     complete &= behind_build.show(

@@ -101,7 +101,7 @@ pub fn mr0_allowed(value: u8) -> bool {
 
 /// Check 3. Bit 1 of the stored status is refused as well: no write ever leaves
 /// it there, the latch is a field of its own.
-fn state_fits(part: &Part, record: &Record) -> bool {
+pub fn state_fits(part: &Part, record: &Record) -> bool {
     let family_fits = match part.family {
         Family::Mram => {
             status_allowed(record.status)

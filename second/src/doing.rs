@@ -100,6 +100,7 @@ fn register_bytes(part: &Part, record: &Record, opcode: u8, address: u32) -> Vec
             Some((Register::Configuration(index), _)) => vec![record.configurations[index]],
             Some((Register::Identity, _)) => identity,
             Some((Register::Unique, _)) => record.unique.to_vec(),
+            Some((Register::Serial, _)) => record.serial.to_vec(),
             None => Vec::new(),
         },
         (Family::Psram, 0xB5) => vec![record.mr0],
@@ -109,7 +110,7 @@ fn register_bytes(part: &Part, record: &Record, opcode: u8, address: u32) -> Vec
 }
 
 /// A register write that has passed every row.
-fn store_register(part: &Part, record: &mut Record, opcode: u8, values: &[u8]) {
+pub fn store_register(part: &Part, record: &mut Record, opcode: u8, values: &[u8]) {
     match (part.family, opcode) {
         (Family::Mram, 0x01) => record.status = values[0] & !0x02,
         (Family::Mram, 0x1A) => record.area_protection = values[0],

@@ -9,37 +9,60 @@ use std::collections::BTreeMap;
 use crate::answer::Answer;
 use crate::compose::{compose, disturb, pick_address, pick_configurations, Plan};
 use crate::device::{fresh, power_cycle, transact, Record};
-use crate::latched::Goals;
-use crate::parts::{another, Family, Part, FIRST_FREE_NUMBER, M, P, PARTS};
+use crate::edges::{Edge, Sent};
+use crate::latched::Goal;
+use crate::parts::{strangers, Family, Part, FIRST_FREE_NUMBER, M, M32, P, PARTS};
 use crate::places::{share_bytes, wrap_length};
 use crate::rng::Rng;
+use crate::rounds::Rounds;
 use crate::table::Data;
 use crate::tape::{Chip, HEAD_BYTES, MOST_TAPE_BYTES, MOST_TAPE_N, MOST_TAPE_SAMPLES};
 
-/// Makes tapes one after the other. It keeps a list of opcode and mode pairs of
-/// each part and one of writes with the latch up, and works both off across tapes,
-/// so that none is left to chance.
-pub struct Maker {
-    rng: Rng,
-    /// By part number.
-    goals: BTreeMap<u8, Vec<(u8, u8)>>,
-    latched: Goals,
+/// Part and n of fresh chips that no tape may have: no part at all, or an n that
+/// the part or the tape does not take.
+pub fn bad_chips() -> Vec<[u8; 2]> {
+    let mut list = vec![[0, M.least_n], [FIRST_FREE_NUMBER, M.least_n]];
+    for part in PARTS {
+        let all_n = [part.least_n - 1, MOST_TAPE_N + 1, part.most_n];
+        list.extend(all_n.map(|n| [part.number, n]));
+    }
+    list
 }
 
-impl Maker {
-    pub fn new(seed: u64) -> Maker {
-        Maker {
-            rng: Rng::new(seed),
-            goals: BTreeMap::new(),
-            latched: Goals::default(),
+/// What the tapes of one part have to show.
+struct Work {
+    /// Opcode and mode pairs of this round.
+    pairs: Vec<(u8, u8)>,
+    pair_rounds: usize,
+    /// Writes with the latch up.
+    latched: Rounds<Goal>,
+    edges: Rounds<Edge>,
+}
+
+/// A list of `Work`.
+#[derive(Clone, Copy)]
+enum List {
+    Pairs,
+    Latched,
+    Edges,
+}
+
+impl Work {
+    fn new(part: &Part) -> Work {
+        Work {
+            pairs: Vec::new(),
+            pair_rounds: 0,
+            latched: Rounds::new(Goal::list(part)),
+            edges: Rounds::new(Edge::on_tapes(part)),
         }
     }
 
     /// The next opcode and mode to try on this part. Opcodes of the part's table
     /// are tried in all modes, also where the table does not know them.
-    fn goal(&mut self, part: &Part) -> (u8, u8) {
-        let list = self.goals.entry(part.number).or_default();
+    fn pair(&mut self, rng: &mut Rng, part: &Part) -> (u8, u8) {
+        let list = &mut self.pairs;
         if list.is_empty() {
+            self.pair_rounds += 1;
             for opcode in part.opcodes() {
                 for &mode in part.modes() {
                     list.push((opcode, mode));
@@ -48,14 +71,53 @@ impl Maker {
             // A few of any value as well, most of them outside the table.
             for &mode in part.modes() {
                 for _ in 0..4 {
-                    list.push((self.rng.byte(), mode));
+                    list.push((rng.byte(), mode));
                 }
             }
             // Going by mode saves moves between modes; the order within is drawn.
-            self.rng.shuffle(list);
+            rng.shuffle(list);
             list.sort_by_key(|&(_, mode)| mode);
         }
         list.pop().unwrap_or((0x66, 1))
+    }
+
+    /// The lists of which some have not had their first turn.
+    fn open_lists(&self) -> Vec<List> {
+        let pairs_open = self.pair_rounds == 0 || self.pair_rounds == 1 && !self.pairs.is_empty();
+        let lists = [
+            (List::Pairs, pairs_open),
+            (List::Latched, self.latched.in_first_round()),
+            (List::Edges, self.edges.in_first_round()),
+        ];
+        let open = lists.iter().filter(|(_, open)| *open);
+        open.map(|&(list, _)| list).collect()
+    }
+}
+
+/// Makes tapes one after the other. It keeps lists of what the tapes of each part
+/// have to show and works them off across tapes, so that nothing is left to chance.
+pub struct Maker {
+    rng: Rng,
+    parts: Rounds<&'static Part>,
+    /// By part number.
+    work: BTreeMap<u8, Work>,
+    bad_chips: Rounds<[u8; 2]>,
+}
+
+impl Maker {
+    pub fn new(seed: u64) -> Maker {
+        Maker {
+            rng: Rng::new(seed),
+            parts: Rounds::new(vec![&M, &M, &M, &M32, &M32, &M32, &P, &P]),
+            work: BTreeMap::new(),
+            bad_chips: Rounds::new(bad_chips()),
+        }
+    }
+
+    /// What this part has to show, and the chance to draw from it.
+    fn work(&mut self, part: &Part) -> (&mut Work, &mut Rng) {
+        let work = self.work.entry(part.number);
+        (work.or_insert_with(|| Work::new(part)), &mut self.rng)
     }
 
     /// One tape of about so many records, never longer than a tape may be.
@@ -176,18 +238,24 @@ impl TapeInWork<'_> {
         true
     }
 
+    /// Adds a fresh chip if it still fits.
+    fn put_chip(&mut self, part: &'static Part, n: u8) -> bool {
+        let fits = self.put(3, &[part.number, n]);
+        if fits {
+            self.chip = Some(Chip::fresh(part, n));
+            self.hot.clear();
+        }
+        fits
+    }
+
     fn fresh_chip(&mut self) {
-        let part = self.rng().pick(&[&M, &M, &M, &P, &P]);
+        let part = self.maker.parts.take(&mut self.maker.rng).unwrap_or(&M);
         // Small memories keep the digests of long runs quick.
         let n = self
             .rng()
             .pick(&[10, 10, 10, 10, 10, 11, 11, 12, 12, 13, 14, 15]);
-        if self.put(3, &[part.number, n]) {
-            self.chip = Some(Chip::fresh(part, n));
-            self.hot.clear();
-            if self.rng().chance(2, 3) {
-                self.opening();
-            }
+        if self.put_chip(part, n) && self.rng().chance(2, 3) {
+            self.opening();
         }
     }
 
@@ -375,7 +443,7 @@ impl TapeInWork<'_> {
             return self.fresh_chip();
         }
         self.fresh_chip();
-        let damaged = self.rng().chance(3, 10);
+        let damaged = self.rng().chance(2, 5);
         while self.records < records && !self.full {
             self.scene();
         }
@@ -390,6 +458,32 @@ impl TapeInWork<'_> {
 
     /// Ends the tape with a record that the reader must refuse.
     fn damage(&mut self) {
+        let bytes = match self.bad_chip() {
+            Some(payload) => {
+                let mut bytes = Vec::new();
+                put_record(&mut bytes, payload.len(), 3, &payload);
+                bytes
+            }
+            None => self.bad_record(),
+        };
+        if self.bytes.len() + bytes.len() <= MOST_TAPE_BYTES {
+            self.bytes.extend(bytes);
+        }
+    }
+
+    /// The next fresh chip that no tape may have: always one as long as some have not
+    /// had their turn, and one in four times after that.
+    fn bad_chip(&mut self) -> Option<[u8; 2]> {
+        let Maker { rng, bad_chips, .. } = &mut *self.maker;
+        if bad_chips.in_first_round() || rng.chance(1, 4) {
+            bad_chips.take(rng)
+        } else {
+            None
+        }
+    }
+
+    /// Any record that the reader must refuse, cut or whole.
+    fn bad_record(&mut self) -> Vec<u8> {
         let row = self.rng().pick(&PARTS);
         let (part, least_n) = (row.number, row.least_n);
         let n = least_n + self.rng().below(usize::from(MOST_TAPE_N - least_n) + 1) as u8;
@@ -422,9 +516,7 @@ impl TapeInWork<'_> {
             }
             _ => put_record(&mut bytes, 0xFFFF, 1, &[0; 12]),
         }
-        if self.bytes.len() + bytes.len() <= MOST_TAPE_BYTES {
-            self.bytes.extend(bytes);
-        }
+        bytes
     }
 
     /// One to some ten records that belong together.
@@ -432,16 +524,26 @@ impl TapeInWork<'_> {
         if self.record().asleep && self.rng().chance(4, 5) {
             return self.asleep();
         }
+        // As long as some lists have not been worked off, most scenes are off them.
+        let part = self.part();
+        let open_lists = self.maker.work(part).0.open_lists();
+        if !open_lists.is_empty() && self.rng().chance(3, 4) {
+            return match self.rng().pick(&open_lists) {
+                List::Pairs => self.reach_goal(),
+                List::Latched => self.write_with_latch_up(),
+                List::Edges => self.go_to_an_edge(),
+            };
+        }
         match self.rng().below(200) {
             0..=59 => self.reach_goal(),
             60..=62 => self.fresh_chip(),
-            63..=65 => self.power_cycle(),
-            66..=68 => {
+            63..=67 => self.power_scene(),
+            68..=70 => {
                 self.send(&[]);
             }
-            69..=76 => self.stray(),
-            77..=87 => self.reset_scene(),
-            88 | 89 => self.long(),
+            71..=78 => self.stray(),
+            79..=89 => self.reset_scene(),
+            90 | 91 => self.long(),
             _ => match self.part().family {
                 Family::Mram => self.scene_of_mram(),
                 Family::Psram => self.scene_of_psram(),
@@ -452,7 +554,8 @@ impl TapeInWork<'_> {
     /// Brings the chip to where the next opcode and mode pair can work, and sends it.
     fn reach_goal(&mut self) {
         let part = self.part();
-        let (opcode, mode) = self.maker.goal(part);
+        let (work, rng) = self.maker.work(part);
+        let (opcode, mode) = work.pair(rng, part);
         self.wake();
         self.go_to_mode(mode);
         let command = part.command(opcode, mode);
@@ -482,9 +585,15 @@ impl TapeInWork<'_> {
             }
             self.command(opcode, &Plan::sound());
         }
+        if self.record().asleep {
+            // It hears AB alone.
+            let all = part.opcodes();
+            let other = self.rng().pick(&all);
+            self.command(other, &Plan::default());
+        }
     }
 
-    /// Opcodes outside the table: any, another part's, near misses, noise.
+    /// Opcodes outside the table: any, another family's, near misses, noise.
     fn stray(&mut self) {
         match self.rng().below(5) {
             0 => {
@@ -492,8 +601,9 @@ impl TapeInWork<'_> {
                 self.rough_command(opcode, &Plan::default());
             }
             1 => {
-                let others = another(self.part().number).opcodes();
-                let opcode = self.rng().pick(&others);
+                let strangers = strangers(self.part().number);
+                let opcodes = self.rng().pick(&strangers).opcodes();
+                let opcode = self.rng().pick(&opcodes);
                 self.rough_command(opcode, &Plan::default());
             }
             2 => {
@@ -521,17 +631,32 @@ impl TapeInWork<'_> {
         }
     }
 
+    /// Something that a reset and a power cycle take back: a latch or a toggle.
+    fn something_to_lose(&mut self) {
+        self.plain(match self.part().family {
+            Family::Mram => 0x06,
+            Family::Psram => 0xC0,
+        });
+    }
+
+    /// A power cycle, most often of a chip that has something to lose.
+    fn power_scene(&mut self) {
+        if self.rng().chance(1, 2) {
+            self.go_to_any_mode();
+        }
+        if self.rng().chance(1, 2) {
+            self.something_to_lose();
+        }
+        self.power_cycle();
+    }
+
     /// The ways in which a reset comes about or is missed.
     fn reset_scene(&mut self) {
         if self.rng().chance(1, 2) {
             self.go_to_any_mode();
         }
         if self.rng().chance(1, 3) {
-            // Something that the reset takes back.
-            self.plain(match self.part().family {
-                Family::Mram => 0x06,
-                Family::Psram => 0xC0,
-            });
+            self.something_to_lose();
         }
         let way = self.rng().below(13);
         let enable = self.samples_of(0x66, &Plan::default());
@@ -602,27 +727,27 @@ impl TapeInWork<'_> {
     /// A sleeping chip: it hears AB alone.
     fn asleep(&mut self) {
         let wake = self.samples_of(0xAB, &Plan::default());
-        match self.rng().below(10) {
-            0 => {
+        match self.rng().below(12) {
+            0 | 1 => {
                 let all = self.part().opcodes();
                 let opcode = self.rng().pick(&all);
                 self.rough_command(opcode, &Plan::default());
             }
-            1 => {
+            2 => {
                 let opcode = self.rng().byte();
                 self.command(opcode, &Plan::default());
             }
-            2 => {
+            3 => {
                 self.send(&[&wake[..], &[0]].concat());
             }
-            3 => {
+            4 => {
                 self.send(&wake[..wake.len() - 1]);
             }
-            4 => {
+            5 | 6 => {
                 let opcode = self.rng().pick(&[0x66, 0x99, 0xB9, 0x05, 0x03]);
                 self.command(opcode, &Plan::default());
             }
-            5 if self.rng().chance(1, 3) => self.power_cycle(),
+            7 if self.rng().chance(1, 3) => self.power_cycle(),
             _ => {
                 self.send(&wake);
             }
@@ -719,6 +844,7 @@ impl TapeInWork<'_> {
             }
             70..=75 => {
                 self.rough_command(0xB9, &Plan::default());
+                self.asleep();
             }
             76..=79 => self.edge_of_protection(),
             80..=83 => self.wrong_value(),
@@ -737,7 +863,8 @@ impl TapeInWork<'_> {
                 let opcode = self.rng().pick(&[0x06, 0x04, 0x00]);
                 self.rough_command(opcode, &Plan::default());
             }
-            94..=113 => self.write_with_latch_up(),
+            94..=107 => self.write_with_latch_up(),
+            108..=115 => self.go_to_an_edge(),
             _ => {
                 let all = self.part().opcodes();
                 let opcode = self.rng().pick(&all);
@@ -750,14 +877,18 @@ impl TapeInWork<'_> {
     /// which shows the latch after it. Behind a register write answered 0 comes a
     /// memory write, which shows it too where it needs the latch.
     fn write_with_latch_up(&mut self) {
-        let goal = self.maker.latched.take(&mut self.maker.rng);
+        let part = self.part();
+        let (work, rng) = self.maker.work(part);
+        let Some(goal) = work.latched.take(rng).map(|goal| goal.draw(rng)) else {
+            return;
+        };
         self.wake();
         if goal.opcode == 0x42 {
             // The area, which only mode 1 reaches.
             self.go_to_mode(1);
         }
         self.go_to_write_mode(goal.write_mode);
-        let (part, record) = (self.part(), self.record());
+        let record = self.record();
         if let Some((opcode, value)) = goal.needed_first(self.rng(), part, &record) {
             self.set(opcode, &[value]);
         }
@@ -768,6 +899,49 @@ impl TapeInWork<'_> {
         self.command(0x05, &Plan::sound());
         if goal.is_register_write_done() {
             self.command(0x02, &Plan::sound());
+        }
+    }
+
+    /// The next of the list of edges. One that did not come off is tried again.
+    fn go_to_an_edge(&mut self) {
+        let part = self.part();
+        let (work, rng) = self.maker.work(part);
+        let Some(edge) = work.edges.take(rng) else {
+            return;
+        };
+        let opcode = edge.opcode();
+        let least_n = edge.least_n(part);
+        self.wake();
+        if self.record().n < least_n {
+            let more = self.rng().below(2) as u8;
+            self.put_chip(part, least_n + more);
+        }
+        if part.command(opcode, self.record().mode).is_none() {
+            // Memory reads and the area are for mode 1 alone.
+            self.go_to_mode(1);
+        }
+        let record = self.record();
+        for (opcode, values) in edge.needed_first(self.rng(), part, &record) {
+            self.set(opcode, &values);
+        }
+        let record = self.record();
+        let aim = edge.aim(self.rng(), part, &record);
+        for (opcode, plan) in &aim.marks {
+            self.raise_latch();
+            self.command(*opcode, plan);
+        }
+        if matches!(opcode, 0x87 | 0x42 | 0x02) {
+            self.raise_latch();
+        }
+        let before = self.record();
+        let samples = self.samples_of(opcode, &aim.plan);
+        let answer = self.send(&samples);
+        let reached = self.chip.as_ref().is_some_and(|chip| {
+            let sent = Sent::new(&before, &samples, answer, &chip.memory, &chip.area);
+            sent.is_some_and(|sent| sent.shows(edge))
+        });
+        if !reached {
+            self.maker.work(part).0.edges.put_back(edge);
         }
     }
 
@@ -790,6 +964,8 @@ impl TapeInWork<'_> {
         } else {
             (0x02, 0x03, 1 << record.n)
         };
+        // A group may be longer than the area.
+        let group = group.min(size);
         let first = group * self.rng().below(size / group);
         let end = first + group;
         let start = end - 1 - self.rng().below(3);
@@ -865,7 +1041,11 @@ impl TapeInWork<'_> {
                 self.rough_command(read, &plan);
             }
             55..=66 => {
-                self.rough_command(0xB1, &Plan::default());
+                let plan = Plan {
+                    bad_value: self.rng().chance(1, 4),
+                    ..Plan::default()
+                };
+                self.rough_command(0xB1, &plan);
                 if self.rng().chance(1, 3) {
                     self.rough_command(0xB5, &Plan::default());
                 }

@@ -1,5 +1,5 @@
-//! The MRAM's writes that find the latch up: the list of those that made input has
-//! to reach, samples for one of them, and how many were reached.
+//! The writes of the MRAM parts that find the latch up: the list of those that made
+//! input has to reach, samples for one of them, and how many were reached.
 
 use std::collections::BTreeMap;
 
@@ -7,10 +7,11 @@ use crate::answer::Answer::{self, Done, Latch, Long, Protected, Reserved, Short}
 use crate::answer::Class;
 use crate::compose::{compose, push_idle, Plan};
 use crate::device::Record;
-use crate::parts::{find, Part};
+use crate::parts::{find, of_family, Family, Part};
 use crate::places::{in_area, protected};
 use crate::reading::read;
 use crate::rng::Rng;
+use crate::rows::{self, Row};
 use crate::tape::{Entry, Step};
 use crate::wires::clocks_for_bits;
 
@@ -38,6 +39,8 @@ const WANTED: [(&[u8], Answer); 11] = [
 /// A wanted write with the latch up.
 #[derive(Clone, Copy, PartialEq, Eq, PartialOrd, Ord, Debug)]
 pub struct Latched {
+    /// The part's number.
+    pub part: u8,
     /// The write mode before it.
     pub write_mode: u8,
     pub opcode: u8,
@@ -54,6 +57,7 @@ impl Latched {
         let opcode = read(find(before.part)?, before, samples).opcode?;
         let wanted = |row: &(&[u8], Answer)| row.0.contains(&opcode) && row.1 == answer;
         WANTED.iter().any(wanted).then_some(Latched {
+            part: before.part,
             write_mode: before.write_mode(),
             opcode,
             answer,
@@ -125,34 +129,53 @@ impl Latched {
     }
 }
 
-/// The list, gone through in a drawn order and then again.
-pub struct Goals {
-    list: Vec<(u8, &'static [u8], Answer)>,
-    taken: usize,
+/// One row of what is to be reached, on one part and in one write mode.
+#[derive(Clone, Copy)]
+pub struct Goal {
+    part: u8,
+    write_mode: u8,
+    opcodes: &'static [u8],
+    answer: Answer,
 }
 
-impl Default for Goals {
-    fn default() -> Goals {
-        let in_mode = |mode: u8| WANTED.map(|(opcodes, answer)| (mode, opcodes, answer));
-        Goals {
-            list: WRITE_MODES.into_iter().flat_map(in_mode).collect(),
-            taken: 0,
+impl Goal {
+    /// All that is to be reached on this part; the PSRAM has no latch.
+    pub fn list(part: &Part) -> Vec<Goal> {
+        if part.family != Family::Mram {
+            return Vec::new();
+        }
+        let in_mode = |write_mode: u8| {
+            WANTED.map(|(opcodes, answer)| Goal {
+                part: part.number,
+                write_mode,
+                opcodes,
+                answer,
+            })
+        };
+        WRITE_MODES.into_iter().flat_map(in_mode).collect()
+    }
+
+    /// A write of the row.
+    pub fn draw(&self, rng: &mut Rng) -> Latched {
+        Latched {
+            part: self.part,
+            write_mode: self.write_mode,
+            opcode: rng.pick(self.opcodes),
+            answer: self.answer,
         }
     }
-}
 
-impl Goals {
-    pub fn take(&mut self, rng: &mut Rng) -> Latched {
-        let at = self.taken % self.list.len();
-        if at == 0 {
-            rng.shuffle(&mut self.list);
-        }
-        self.taken += 1;
-        let (write_mode, opcodes, answer) = self.list[at];
-        Latched {
-            write_mode,
-            opcode: rng.pick(opcodes),
-            answer,
+    fn holds(&self, write: &Latched) -> bool {
+        write.part == self.part
+            && write.write_mode == self.write_mode
+            && write.answer == self.answer
+            && self.opcodes.contains(&write.opcode)
+    }
+
+    fn word(&self) -> String {
+        match self.opcodes {
+            [opcode] => format!("{opcode:02X} {}", self.answer),
+            _ => format!("register {}", self.answer),
         }
     }
 }
@@ -216,29 +239,24 @@ impl Reached {
         }
     }
 
-    /// Adds the counts, a line for each write mode; tells whether none is missing.
+    /// Adds the counts, a line for each part and write mode; tells whether none is
+    /// missing.
     pub fn show(&self, title: &str, text: &mut String) -> bool {
         *text += &format!("{title}\n");
-        let mut all = true;
-        for write_mode in WRITE_MODES {
-            let mut words = Vec::new();
-            for (opcodes, answer) in WANTED {
-                let count: u64 = self
-                    .0
-                    .iter()
-                    .filter(|(write, _)| write.write_mode == write_mode)
-                    .filter(|(write, _)| write.answer == answer && opcodes.contains(&write.opcode))
-                    .map(|(_, count)| count)
-                    .sum();
-                all &= count > 0;
-                let name = match opcodes {
-                    [opcode] => format!("{opcode:02X}"),
-                    _ => String::from("register"),
-                };
-                words.push(format!("{name} {answer}={count}"));
-            }
-            *text += &format!("  write mode {write_mode}: {}\n", words.join(", "));
+        let mut list = Vec::new();
+        for part in of_family(Family::Mram) {
+            list.extend(Goal::list(part).into_iter().map(|goal| Row {
+                part,
+                kind: format!("write mode {}", goal.write_mode),
+                word: goal.word(),
+                count: self.count(&goal),
+            }));
         }
-        all
+        rows::show(&list, text)
+    }
+
+    fn count(&self, goal: &Goal) -> u64 {
+        let held = self.0.iter().filter(|(write, _)| goal.holds(write));
+        held.map(|(_, count)| count).sum()
     }
 }

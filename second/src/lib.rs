@@ -1,11 +1,12 @@
-//! A plain model of two serial memory chips, of the host half that talks to
-//! them, and of the bench tape, written from document 01, request P3 of document
-//! 02 and the source documents alone.
+//! A plain model of three serial memory chips, of the host half that talks to
+//! them, and of the bench tape, written from document 01, requests P3 and P4 of
+//! document 02 and the source documents alone.
 //!
 //! Part M is the serial MRAM and has number 1, part P the serial PSRAM and has
-//! number 2. A transaction is worked out as a whole, in three steps: the samples
-//! are read (cut into command, address, wait, data and rest), what was read is
-//! judged by the answer table, and then what the answer asks for is done.
+//! number 2, part M32 is the serial MRAM of 32 Mbit and has number 3. A transaction
+//! is worked out as a whole, in three steps: the samples are read (cut into
+//! command, address, wait, data and rest), what was read is judged by the answer
+//! table, and then what the answer asks for is done.
 
 pub mod answer;
 pub mod ask;
@@ -14,11 +15,13 @@ pub mod compose;
 pub mod coverage;
 pub mod device;
 pub mod doing;
+pub mod edges;
 pub mod faults;
 pub mod generate;
 pub mod host;
 pub mod judging;
 pub mod latched;
+pub mod limits;
 pub mod pace;
 pub mod parts;
 pub mod places;
@@ -26,6 +29,8 @@ pub mod probe;
 pub mod reading;
 pub mod request;
 pub mod rng;
+pub mod rounds;
+pub mod rows;
 pub mod spoil;
 pub mod table;
 pub mod tape;

@@ -1,10 +1,10 @@
 //! The parts: one row of limits for each. A rule that holds for every part of a
 //! family asks the family, a limit is read from the part's row.
 
-/// Which source document a part's rules come from.
+/// Which rules a part follows.
 #[derive(Clone, Copy, PartialEq, Eq, Debug)]
 pub enum Family {
-    /// The serial MRAM of documents 000 and 002.
+    /// The serial MRAMs of documents 000 and 002.
     Mram,
     /// The serial PSRAM of document 004.
     Psram,
@@ -18,6 +18,7 @@ pub enum Register {
     Configuration(usize),
     Identity,
     Unique,
+    Serial,
 }
 
 /// The limits of one part.
@@ -25,7 +26,7 @@ pub enum Register {
 pub struct Part {
     pub number: u8,
     /// How the part is called in printed lines.
-    pub letter: char,
+    pub word: &'static str,
     pub family: Family,
     /// Memory holds 2^n bytes, n from the least to the most.
     pub least_n: u8,
@@ -46,10 +47,10 @@ pub struct Part {
     pub fresh_mr0: u8,
 }
 
-/// The serial MRAM.
+/// The serial MRAM of document 000.
 pub const M: Part = Part {
     number: 1,
-    letter: 'M',
+    word: "M",
     family: Family::Mram,
     least_n: 10,
     most_n: 21,
@@ -73,7 +74,7 @@ pub const M: Part = Part {
 /// The serial PSRAM.
 pub const P: Part = Part {
     number: 2,
-    letter: 'P',
+    word: "P",
     family: Family::Psram,
     least_n: 10,
     most_n: 21,
@@ -86,8 +87,30 @@ pub const P: Part = Part {
     fresh_mr0: 0x60,
 };
 
+/// The serial MRAM of 32 Mbit, document 002. What document 02, P4 does not name is
+/// as for part 1.
+pub const M32: Part = Part {
+    number: 3,
+    word: "M32",
+    most_n: 22,
+    area_bytes: 512,
+    section_bytes: 64,
+    wrap_lengths: &[16, 32, 64, 128, 256, 512, 1024],
+    register_map: &[
+        (0x00, Register::Status, 1),
+        (0x02, Register::Configuration(0), 1),
+        (0x03, Register::Configuration(1), 1),
+        (0x04, Register::Configuration(2), 1),
+        (0x05, Register::Configuration(3), 1),
+        (0x30, Register::Identity, 4),
+        (0x40, Register::Unique, 8),
+        (0x80, Register::Serial, 8),
+    ],
+    ..M
+};
+
 /// All parts, in the order of their numbers, which begin at 1.
-pub const PARTS: [&Part; 2] = [&M, &P];
+pub const PARTS: [&Part; 3] = [&M, &P, &M32];
 
 /// The first number that no part has.
 pub const FIRST_FREE_NUMBER: u8 = PARTS.len() as u8 + 1;
@@ -97,11 +120,24 @@ pub fn find(number: u8) -> Option<&'static Part> {
     PARTS.into_iter().find(|part| part.number == number)
 }
 
-/// Another part than the one with this number: the next in the list, or the first
-/// where the list ends or has no such number.
-pub fn another(number: u8) -> &'static Part {
-    let mut from_here = PARTS.into_iter().skip_while(|part| part.number != number);
-    from_here.nth(1).unwrap_or(PARTS[0])
+/// All parts but the one with this number.
+pub fn others(number: u8) -> Vec<&'static Part> {
+    let other = |part: &&Part| part.number != number;
+    PARTS.into_iter().filter(other).collect()
+}
+
+/// The parts of other families than that of the part with this number; all parts
+/// where there is no such part.
+pub fn strangers(number: u8) -> Vec<&'static Part> {
+    let family = find(number).map(|part| part.family);
+    let stranger = |part: &&Part| Some(part.family) != family;
+    PARTS.into_iter().filter(stranger).collect()
+}
+
+/// All parts of a family.
+pub fn of_family(family: Family) -> Vec<&'static Part> {
+    let member = |part: &&Part| part.family == family;
+    PARTS.into_iter().filter(member).collect()
 }
 
 impl Part {

@@ -1,9 +1,10 @@
 //! The command tables of both families (document 01, "Commands of part M" and
 //! "Commands of part P").
 //!
-//! The opcodes of M's writes are those of document 000, with document 002 where
-//! the scan of 000 is damaged: 87 for the configurations, C2 for the serial
-//! number, 1A for the area protection, 02 for memory, 42 for the area.
+//! The opcodes of the MRAM's writes are those of document 000, with document 002
+//! where the scan of 000 is damaged: 87 for the configurations, C2 for the serial
+//! number, 1A for the area protection, 02 for memory, 42 for the area. Both MRAM
+//! parts have the same commands.
 
 use crate::parts::{find, Family, Part};
 

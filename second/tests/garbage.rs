@@ -31,7 +31,7 @@ fn random_tapes() {
 fn tapes_with_good_heads_and_random_payloads() {
     let mut rng = Rng::new(12);
     for _ in 0..2000 {
-        let mut tape = vec![2, 0, 3, 0, 1 + rng.below(2) as u8, 10 + rng.below(6) as u8];
+        let mut tape = vec![2, 0, 3, 0, 1 + rng.below(3) as u8, 10 + rng.below(6) as u8];
         for _ in 0..rng.below(12) {
             let mut samples = noise(&mut rng, 60);
             if rng.chance(4, 5) {
@@ -110,7 +110,7 @@ fn random_request_files() {
 fn any_record(rng: &mut Rng) -> Record {
     let eight = |rng: &mut Rng| rng.draw().to_le_bytes();
     Record {
-        part: rng.byte() % 4,
+        part: rng.byte() % 5,
         n: rng.byte(),
         mode: rng.byte() % 6,
         latch: rng.chance(1, 2),
@@ -138,10 +138,10 @@ fn random_calls() {
         } else {
             rng.below(3000)
         };
-        let area_bytes = if rng.chance(1, 2) {
-            256
+        let area_bytes = if rng.chance(2, 3) {
+            rng.pick(&[256, 512])
         } else {
-            rng.below(300)
+            rng.below(600)
         };
         let output_bytes = rng.below(50);
         let mut memory = vec![1; memory_bytes];
@@ -163,7 +163,7 @@ fn random_calls() {
 #[test]
 fn random_transactions() {
     let mut rng = Rng::new(16);
-    for part in [1u8, 2] {
+    for part in [1u8, 2, 3] {
         let mut chip = common::Bench::new(part, 10);
         for _ in 0..30_000 {
             let length = rng.below(60);
@@ -197,7 +197,7 @@ fn random_host_requests() {
                 rng.draw() as u32
             }
         };
-        let part = any(&mut rng, 4);
+        let part = any(&mut rng, 5);
         let opcode = any(&mut rng, 300);
         let mode = any(&mut rng, 6);
         let address = any(&mut rng, 1 << 25);

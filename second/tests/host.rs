@@ -104,7 +104,7 @@ fn samples_of_plain_commands() {
 
 #[test]
 fn refusal_5() {
-    for part in [0, 3, 256, 257, u32::MAX] {
+    for part in [0, 4, 256, 257, 259, u32::MAX] {
         assert_eq!(ask(Request { part, ..GOOD }).0, 5);
     }
     for mode in [0, 2, 3, 4, 5, 8, 257, u32::MAX] {
@@ -584,10 +584,10 @@ fn gathering_refusals() {
     assert_eq!(take(1, &outputs, 0).0, 2);
 }
 
-/// Host to device and back for every command of both parts in every mode.
+/// Host to device and back for every command of all parts in every mode.
 #[test]
 fn round_trip() {
-    for part in [M, P] {
+    for part in [M, P, M32] {
         let row = find(part).expect("a part of the table");
         for &mode in row.modes() {
             for opcode in row.opcodes() {
@@ -597,8 +597,8 @@ fn round_trip() {
                 let mut chip = Bench::new(part, 10).marked();
                 chip.record.mode = mode;
                 chip.record.armed = true;
-                chip.record.latch = part == M;
-                if part == M {
+                chip.record.latch = part != P;
+                if part != P {
                     chip.record.configurations = [0, 11, 0x40, 6];
                     chip.record.serial = [1, 2, 3, 4, 5, 6, 7, 8];
                     chip.record.area_protection = 0x10;
@@ -647,7 +647,8 @@ fn round_trip() {
                 assert_eq!(told as usize, number);
                 let bytes = &bytes[..number];
                 let place = address as usize;
-                match (part, opcode) {
+                let family = if part == P { P } else { M };
+                match (family, opcode) {
                     (M, 0x05) => assert_eq!(bytes, [0x02]),
                     (M, 0x14) => assert_eq!(bytes, [0x10]),
                     (M, 0x35) => assert_eq!(bytes, [0]),

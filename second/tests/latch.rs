@@ -23,14 +23,14 @@ fn wrong_values(write_mode: u8) -> [Vec<u8>; 5] {
         vec![0x01, 0x80],
         vec![0x01, 0x03],
         vec![0x87, 1, 0, 0, 0x04 | write_mode],
-        vec![0x87, 0, 0, 0x05, 0x04 | write_mode],
+        vec![0x87, 0, 0, 0x07, 0x04 | write_mode],
         vec![0x87, 0, 0, 0, 0x07],
     ]
 }
 
-/// Part M in this bus mode and write mode.
-fn chip_with(mode: u8, write_mode: u8, latch: bool) -> Bench {
-    let mut chip = Bench::m();
+/// A chip in this bus mode and write mode.
+fn chip_with(part: u8, mode: u8, write_mode: u8, latch: bool) -> Bench {
+    let mut chip = Bench::new(part, 10);
     chip.record.mode = mode;
     chip.record.configurations[3] = 0x04 | write_mode;
     chip.record.latch = latch;
@@ -49,25 +49,27 @@ fn assert_latch(chip: &mut Bench, expected: bool) {
     assert_eq!(chip.driven(), out(mode, &[shown]));
 }
 
-/// Tries something in every bus mode and write mode.
-fn in_every_mode(try_in: impl Fn(u8, u8)) {
-    for mode in [1, 2, 4] {
-        for write_mode in 0..3 {
-            try_in(mode, write_mode);
+/// Tries something on both parts with a latch, in every bus mode and write mode.
+fn in_every_mode(try_in: impl Fn(u8, u8, u8)) {
+    for part in MRAMS {
+        for mode in [1, 2, 4] {
+            for write_mode in 0..3 {
+                try_in(part, mode, write_mode);
+            }
         }
     }
 }
 
 #[test]
 fn a_register_write_done_drops_the_latch() {
-    in_every_mode(|mode, write_mode| {
+    in_every_mode(|part, mode, write_mode| {
         for bytes in register_writes(write_mode) {
-            let mut chip = chip_with(mode, write_mode, true);
+            let mut chip = chip_with(part, mode, write_mode, true);
             assert_eq!(chip.say(&bytes), 0);
             assert_latch(&mut chip, false);
         }
         // Bit 1 of the value written has no say.
-        let mut chip = chip_with(mode, write_mode, true);
+        let mut chip = chip_with(part, mode, write_mode, true);
         assert_eq!(chip.say(&[0x01, 0x3E]), 0);
         assert_eq!(chip.record.status, 0x3C);
         assert_latch(&mut chip, false);
@@ -76,9 +78,9 @@ fn a_register_write_done_drops_the_latch() {
 
 #[test]
 fn a_change_of_the_write_mode_drops_the_latch() {
-    in_every_mode(|mode, before| {
+    in_every_mode(|part, mode, before| {
         for after in 0..3 {
-            let mut chip = chip_with(mode, before, true);
+            let mut chip = chip_with(part, mode, before, true);
             assert_eq!(chip.say(&[0x87, 0, 0, 0, 0x04 | after]), 0);
             assert_eq!(chip.record.configurations, [0, 0, 0, 0x04 | after]);
             assert_latch(&mut chip, false);
@@ -92,8 +94,8 @@ fn a_change_of_the_write_mode_drops_the_latch() {
 
 #[test]
 fn a_declined_register_write_keeps_the_latch() {
-    in_every_mode(|mode, write_mode| {
-        let mut chip = chip_with(mode, write_mode, true);
+    in_every_mode(|part, mode, write_mode| {
+        let mut chip = chip_with(part, mode, write_mode, true);
         let before = chip.record;
         for bytes in register_writes(write_mode) {
             let whole = on(mode, &bytes);
@@ -115,8 +117,8 @@ fn a_declined_register_write_keeps_the_latch() {
 
 #[test]
 fn a_declined_register_write_leaves_the_latch_down() {
-    in_every_mode(|mode, write_mode| {
-        let mut chip = chip_with(mode, write_mode, false);
+    in_every_mode(|part, mode, write_mode| {
+        let mut chip = chip_with(part, mode, write_mode, false);
         let before = chip.record;
         for bytes in register_writes(write_mode) {
             assert_eq!(chip.say(&bytes), 8);
@@ -136,24 +138,25 @@ fn a_declined_register_write_leaves_the_latch_down() {
 /// Memory and area, stored and all protected.
 #[test]
 fn a_burst_drops_the_latch_in_write_mode_0_alone() {
-    in_every_mode(|mode, write_mode| {
+    in_every_mode(|part, mode, write_mode| {
         for opcode in [0x02, 0x42] {
             if opcode == 0x42 && mode != 1 {
                 continue;
             }
             for (protection, answer) in [(0x00, 0), (0x1C, 9)] {
-                let mut chip = chip_with(mode, write_mode, true);
+                let mut chip = chip_with(part, mode, write_mode, true);
                 chip.record.status = protection;
                 chip.record.area_protection = protection;
-                assert_eq!(chip.write(opcode, 0x40, &[1]), answer);
+                // In a section that is protected on both parts.
+                assert_eq!(chip.write(opcode, 0x80, &[1]), answer);
                 assert_latch(&mut chip, write_mode != 0);
                 // In mode 0 the next one needs a write enable, in 1 and 2 not.
                 let again = if write_mode == 0 { 8 } else { answer };
-                assert_eq!(chip.write(opcode, 0x41, &[2]), again);
+                assert_eq!(chip.write(opcode, 0x81, &[2]), again);
                 assert_latch(&mut chip, write_mode != 0);
             }
             // With the latch down it stays down.
-            let mut chip = chip_with(mode, write_mode, false);
+            let mut chip = chip_with(part, mode, write_mode, false);
             let expected = if write_mode == 1 { 0 } else { 8 };
             assert_eq!(chip.write(opcode, 0x40, &[1]), expected);
             assert_latch(&mut chip, false);
@@ -163,9 +166,9 @@ fn a_burst_drops_the_latch_in_write_mode_0_alone() {
 
 #[test]
 fn a_memory_write_behind_a_register_write_done() {
-    in_every_mode(|mode, write_mode| {
+    in_every_mode(|part, mode, write_mode| {
         for bytes in register_writes(write_mode) {
-            let mut chip = chip_with(mode, write_mode, true);
+            let mut chip = chip_with(part, mode, write_mode, true);
             assert_eq!(chip.say(&bytes), 0);
             let expected = if write_mode == 1 { 0 } else { 8 };
             assert_eq!(chip.write(0x02, 0x40, &[0x5A]), expected);
@@ -183,7 +186,7 @@ fn a_memory_write_behind_a_register_write_done() {
 /// In write mode 2 one write enable serves many bursts, but one register write.
 #[test]
 fn back_to_back_bursts_up_to_a_register_write() {
-    let mut chip = chip_with(1, 2, false);
+    let mut chip = chip_with(M, 1, 2, false);
     assert_eq!(chip.say(&[0x06]), 0);
     for place in 0..4 {
         assert_eq!(chip.write(0x02, place, &[1]), 0);
@@ -228,9 +231,9 @@ fn coverage_counts_a_write_with_what_stands_right_behind_it() {
         let (text, complete) = reached(&records);
         assert!(!complete);
         let mode_1 = text.lines().nth(2).unwrap_or("");
-        assert!(mode_1.starts_with("  write mode 1: "));
+        assert!(mode_1.starts_with("  part M, write mode 1: "));
         // No word but this one is ever counted here.
-        assert_eq!(text.matches("=0").count() + text.matches("=1").count(), 33);
+        assert_eq!(text.matches("=0").count() + text.matches("=1").count(), 66);
         let met = format!("{word}=1");
         assert!(text.matches("=1").count() <= 1);
         mode_1.contains(&met)

@@ -2,22 +2,34 @@
 
 mod common;
 use common::*;
-use second::parts::{another, find, Family, FIRST_FREE_NUMBER, PARTS};
+use second::parts::{find, of_family, others, strangers, Family, FIRST_FREE_NUMBER, PARTS};
 
 #[test]
 fn numbers_run_from_1() {
     for (place, part) in PARTS.into_iter().enumerate() {
         assert_eq!(usize::from(part.number), place + 1);
         assert_eq!(find(part.number), Some(part));
-        assert_ne!(another(part.number), part);
+        assert_eq!(others(part.number).len(), PARTS.len() - 1);
+        assert!(!others(part.number).contains(&part));
+        assert!(of_family(part.family).contains(&part));
+        assert!(!strangers(part.number).contains(&part));
     }
-    for number in [0, FIRST_FREE_NUMBER, 255] {
+    assert_eq!(FIRST_FREE_NUMBER, 4);
+    for number in [0, 4, 5, 255] {
         assert_eq!(find(number), None);
-        assert_eq!(another(number), PARTS[0]);
+        assert_eq!(others(number), PARTS);
+        assert_eq!(strangers(number), PARTS);
     }
-    let row = |number: u8| find(number).map(|part| (part.letter, part.family));
-    assert_eq!(row(M), Some(('M', Family::Mram)));
-    assert_eq!(row(P), Some(('P', Family::Psram)));
+    let row = |number: u8| find(number).map(|part| (part.word, part.family));
+    assert_eq!(row(M), Some(("M", Family::Mram)));
+    assert_eq!(row(P), Some(("P", Family::Psram)));
+    assert_eq!(row(M32), Some(("M32", Family::Mram)));
+    let numbers = |list: Vec<&second::parts::Part>| -> Vec<u8> {
+        list.into_iter().map(|part| part.number).collect()
+    };
+    assert_eq!(numbers(of_family(Family::Mram)), MRAMS);
+    assert_eq!(numbers(strangers(M32)), [P]);
+    assert_eq!(numbers(strangers(P)), MRAMS);
 }
 
 #[test]

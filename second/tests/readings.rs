@@ -469,7 +469,7 @@ fn a39_every_memory_command_of_p_wraps() {
 
 #[test]
 fn a42_arming() {
-    for part in [M, P] {
+    for part in [M, P, M32] {
         let mut chip = Bench::new(part, 10);
         assert_eq!(chip.say(&[0x66]), 0);
         assert_eq!(chip.say(&[0x66]), 0);

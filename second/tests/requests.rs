@@ -73,7 +73,7 @@ fn lines_of_other_builds() {
     // P, EB in mode 1 at ABCDEF, one byte: 8, 6, 6 and 2 clocks; data is ignored.
     file.extend(raw([1, 2, 0xEB, 1, 0], [0xAB_CDEF, 1, 22], &[1, 2]));
     // The refusals in their order, each with the next one behind it.
-    file.extend(raw([1, 3, 0x4B, 1, 0x10], [0x100_0000, 0, 0], &[]));
+    file.extend(raw([1, 4, 0x4B, 1, 0x10], [0x100_0000, 0, 0], &[]));
     file.extend(raw([1, 1, 0x4B, 1, 0x10], [0x100_0000, 0, 0], &[]));
     file.extend(raw([1, 1, 0x4B, 1, 0x10], [0xFF_FFFF, 0, 0], &[]));
     file.extend(raw([1, 1, 0x4B, 1, 0x0F], [0xFF_FFFF, 0, 0], &[]));
@@ -295,7 +295,7 @@ fn same_seed_same_requests() {
     // A fixed digest shows that no machine makes other bytes.
     assert_eq!(format!("{:08X}", digest(&requests(1, 500))), REQUESTS);
 }
-const REQUESTS: &str = "18E8D351";
+const REQUESTS: &str = "2B193D8B";
 
 #[test]
 fn coverage_of_the_default_requests() {
@@ -324,7 +324,7 @@ fn requests_meet_the_edges() {
         Call::Build => look_up(r.part_or_wires, r.opcode, r.mode),
         Call::Gather => None,
     };
-    for part in [0, 3, 4, 255] {
+    for part in [0, 4, 5, 255] {
         some(3, &|r| builds(r) && r.part_or_wires == part);
     }
     for mode in [0, 3, 5] {

@@ -63,11 +63,19 @@ fn unknown_kinds() {
 
 #[test]
 fn wrong_payloads() {
-    for payload in [&[][..], &[1], &[1, 10, 0], &[0, 10], &[3, 10], &[10, 1]] {
+    for payload in [
+        &[][..],
+        &[1],
+        &[1, 10, 0],
+        &[3, 10, 0],
+        &[0, 10],
+        &[4, 10],
+        &[10, 1],
+    ] {
         assert_eq!(lines(&record(3, payload)), "bad 0\n");
     }
     for n in 0..=255u8 {
-        for part in [1, 2] {
+        for part in [1, 2, 3] {
             let expected = if (10..=15).contains(&n) {
                 "1 0 0 0 0 0 0\nend 1\n"
             } else {

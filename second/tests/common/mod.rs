@@ -8,6 +8,9 @@ use second::parts::find;
 
 pub const M: u8 = 1;
 pub const P: u8 = 2;
+pub const M32: u8 = 3;
+/// The parts with a latch, an area and protection.
+pub const MRAMS: [u8; 2] = [M, M32];
 
 /// The samples of some bytes on so many wires.
 pub fn on(wires: u8, bytes: &[u8]) -> Vec<u8> {
@@ -71,10 +74,10 @@ pub struct Bench {
 impl Bench {
     pub fn new(part: u8, n: u8) -> Bench {
         let (identity, unique, area_bytes) = match part {
-            M => (
+            M | M32 => (
                 [0xE6, 0x01, 0x15, 0x01, 0, 0, 0, 0],
                 [0x81, 0x72, 0x63, 0x54, 0x45, 0x36, 0x27, 0x18],
-                256,
+                if part == M { 256 } else { 512 },
             ),
             P => ([0x0D, 0x5D, 0x52, 0x33, 0x44, 0x55, 0x66, 0x77], [0; 8], 0),
             _ => panic!("no such part"),
@@ -97,13 +100,17 @@ impl Bench {
         Bench::new(P, 10)
     }
 
+    pub fn m32() -> Bench {
+        Bench::new(M32, 10)
+    }
+
     /// Fills memory and area so that each byte tells its place.
     pub fn marked(mut self) -> Bench {
         for (place, byte) in self.memory.iter_mut().enumerate() {
             *byte = (place * 7 + place / 256) as u8;
         }
         for (place, byte) in self.area.iter_mut().enumerate() {
-            *byte = (place * 3 + 1) as u8;
+            *byte = (place * 3 + place / 256 + 1) as u8;
         }
         self
     }
