@@ -101,7 +101,7 @@ uint8_t tondravik_fresh_m(uint8_t n, const uint8_t *device, size_t device_length
 uint8_t tondravik_fresh_m32(uint8_t n, const uint8_t *device, size_t device_length, const uint8_t *unique,
                             size_t unique_length, uint8_t *chip, size_t chip_length);
 
-/* A fresh chip of part P. `device` is its eight bytes of device identity. Answers as above. */
+/* A fresh chip of part P. `device` is its eight bytes of device identity. Answers as for part M, n from 10 to 21. */
 uint8_t tondravik_fresh_p(uint8_t n, const uint8_t *device, size_t device_length, uint8_t *chip, size_t chip_length);
 
 /* A transaction: all clocks between select low and select high. Each sample is 0 to 15, bit i the level on wire i.

@@ -7,19 +7,19 @@ use second::device::{fresh, Record};
 use second::parts;
 
 #[test]
-fn a1_to_a3_opcodes_of_m() {
+fn opcodes_of_m() {
     for mode in [1, 2, 4] {
-        // A1: the memory write works in every mode.
+        // The memory write works in every mode.
         let mut chip = Bench::m();
         chip.record.mode = mode;
         assert_eq!(chip.write(0x02, 3, &[0x5A]), 0);
         assert_eq!(chip.memory[3], 0x5A);
-        // A2: the opcodes that the scan garbles.
+        // The opcodes that the scan garbles.
         assert_eq!(chip.set(0x87, &[0, 1, 2, 5]), 0);
         assert_eq!(chip.set(0xC2, &[1, 2, 3, 4, 5, 6, 7, 8]), 0);
         assert_eq!(chip.set(0x1A, &[0]), 0);
         for opcode in [0xA2, 0xC0, 0x0A, 0x71, 0xBA, 0x0B, 0xDA, 0x0D, 0xDE] {
-            // A3 too: not listed is not known.
+            // Not listed is not known.
             assert_eq!(chip.say(&[opcode, 0, 0, 0, 0]), 5);
         }
     }
@@ -29,7 +29,7 @@ fn a1_to_a3_opcodes_of_m() {
 }
 
 #[test]
-fn a4_only_ab_wakes() {
+fn only_ab_wakes() {
     let mut chip = Bench::m();
     assert_eq!(chip.say(&[0xB9]), 0);
     assert_eq!(chip.send(&[]), 4);
@@ -41,7 +41,7 @@ fn a4_only_ab_wakes() {
 }
 
 #[test]
-fn a5_and_a24_values_with_a_meaning_elsewhere_are_refused() {
+fn values_with_a_meaning_elsewhere_are_refused() {
     let mut chip = Bench::m();
     for value in [0x80, 0x40] {
         assert_eq!(chip.set(0x01, &[value]), 10);
@@ -61,7 +61,7 @@ fn a5_and_a24_values_with_a_meaning_elsewhere_are_refused() {
 }
 
 #[test]
-fn a6_and_a37_mode_register_of_p() {
+fn mode_register_of_p() {
     let mut chip = Bench::p();
     chip.record.mr0 = 0x42;
     let samples = join(&[&on(1, &[0xB5, 0, 0, 0]), &[0; 8], &[0; 8], &[0; 3]]);
@@ -74,7 +74,7 @@ fn a6_and_a37_mode_register_of_p() {
 }
 
 #[test]
-fn a7_and_a34_identity_of_p() {
+fn identity_of_p() {
     let mut chip = Bench::p();
     for address in [0, 0x123456, 0xFFFFFF] {
         let samples = join(&[&on(1, &join(&[&[0x9F], &at(address)])), &[0; 64]]);
@@ -87,7 +87,7 @@ fn a7_and_a34_identity_of_p() {
 }
 
 #[test]
-fn a8_order_of_address_and_numbers() {
+fn order_of_address_and_numbers() {
     let mut chip = Bench::new(M, 16);
     assert_eq!(chip.say(&[0x02, 0x00, 0x12, 0x34, 0x77]), 0);
     assert_eq!(chip.memory[0x1234], 0x77);
@@ -99,7 +99,7 @@ fn a8_order_of_address_and_numbers() {
 }
 
 #[test]
-fn a10_unused_wires_and_large_samples() {
+fn unused_wires_and_large_samples() {
     // Noise above the wire in use changes nothing.
     let mut chip = Bench::m();
     let noisy: Vec<u8> = on(1, &[0x06]).iter().map(|s| s | 0x0E).collect();
@@ -119,7 +119,7 @@ fn a10_unused_wires_and_large_samples() {
 }
 
 #[test]
-fn a11_an_unfinished_byte_is_driven() {
+fn an_unfinished_byte_is_driven() {
     let mut chip = Bench::m().marked();
     chip.memory[5] = 0b1011_0110;
     let samples = join(&[&on(1, &[0x03, 0, 0, 5]), &[0; 5]]);
@@ -132,7 +132,7 @@ fn a11_an_unfinished_byte_is_driven() {
 }
 
 #[test]
-fn a12_command_on_one_wire_rest_on_four() {
+fn command_on_one_wire_rest_on_four() {
     let mut chip = Bench::p();
     let noisy: Vec<u8> = on(1, &[0x38]).iter().map(|s| s | 0x0E).collect();
     let samples = join(&[&noisy, &on(4, &[0, 1, 2, 0xC3, 0x5A])]);
@@ -145,7 +145,7 @@ fn a12_command_on_one_wire_rest_on_four() {
 }
 
 #[test]
-fn a13_and_a14_wake() {
+fn wake() {
     let mut chip = Bench::m();
     assert_eq!(chip.say(&[0x66]), 0);
     assert_eq!(chip.say(&[0xAB]), 0);
@@ -164,7 +164,7 @@ fn a13_and_a14_wake() {
 }
 
 #[test]
-fn a15_waits_of_m() {
+fn waits_of_m() {
     for waits in 0..16u8 {
         let mut chip = Bench::m().marked();
         chip.record.configurations[1] = waits;
@@ -189,7 +189,7 @@ fn a15_waits_of_m() {
 }
 
 #[test]
-fn a16_to_a18_register_map() {
+fn register_map() {
     let mut chip = Bench::m();
     chip.record.status = 0x38;
     chip.record.configurations = [0, 7, 0xF4, 6];
@@ -221,7 +221,7 @@ fn a16_to_a18_register_map() {
 }
 
 #[test]
-fn a19_and_a23_configurations_all_or_none() {
+fn configurations_all_or_none() {
     let mut chip = Bench::m();
     assert_eq!(chip.set(0x87, &[0, 3, 0x11, 0x07]), 10);
     assert_eq!(chip.record.configurations, [0, 8, 0, 5]);
@@ -235,7 +235,7 @@ fn a19_and_a23_configurations_all_or_none() {
 }
 
 #[test]
-fn a20_wrapping_of_m() {
+fn wrapping_of_m() {
     for code in 0..5u8 {
         let group = 16usize << code;
         let mut chip = Bench::m().marked();
@@ -268,7 +268,7 @@ fn a20_wrapping_of_m() {
 }
 
 #[test]
-fn a20_a_burst_may_lap() {
+fn a_burst_may_lap() {
     let data: Vec<u8> = (0..1030u32).map(|i| (i / 5) as u8 + 1).collect();
     let mut chip = Bench::m();
     chip.record.mode = 4;
@@ -300,7 +300,7 @@ fn a20_a_burst_may_lap() {
 }
 
 #[test]
-fn a21_shares_of_the_largest_memory() {
+fn shares_of_the_largest_memory() {
     let mut chip = Bench::new(M, 21);
     chip.record.status = 6 << 2;
     assert_eq!(chip.write(0x02, 0x0FFFFF, &[1]), 0);
@@ -312,7 +312,7 @@ fn a21_shares_of_the_largest_memory() {
 }
 
 #[test]
-fn a22_and_a29_bit_1_of_the_status() {
+fn bit_1_of_the_status() {
     let mut chip = Bench::m();
     assert_eq!(chip.set(0x01, &[0x3E]), 0);
     assert_eq!(chip.record.status, 0x3C);
@@ -328,7 +328,7 @@ fn a22_and_a29_bit_1_of_the_status() {
 }
 
 #[test]
-fn a25_fresh_chips() {
+fn fresh_chips() {
     let m = fresh(&parts::M, 17, [1, 2, 3, 4, 0, 0, 0, 0], [9; 8]);
     assert_eq!((m.part, m.n), (1, 17));
     assert_eq!((m.mode, m.status, m.area_protection, m.mr0), (1, 0, 0, 0));
@@ -342,7 +342,7 @@ fn a25_fresh_chips() {
 }
 
 #[test]
-fn a27_declined_writes_keep_the_latch() {
+fn declined_writes_keep_the_latch() {
     for write_mode in 0..3u8 {
         let mut chip = Bench::m();
         chip.record.configurations[3] = 0x04 | write_mode;
@@ -357,7 +357,7 @@ fn a27_declined_writes_keep_the_latch() {
 }
 
 #[test]
-fn a32_and_a33_odd_but_valid_records() {
+fn odd_but_valid_records() {
     let mut chip = Bench::m();
     chip.record.armed = true;
     chip.record.asleep = true;
@@ -370,7 +370,7 @@ fn a32_and_a33_odd_but_valid_records() {
 }
 
 #[test]
-fn a35_and_a36_and_a40_table_of_p() {
+fn table_of_p() {
     let mut chip = Bench::p();
     for opcode in [0x03, 0x9F, 0x35] {
         chip.record.mode = 4;
@@ -402,7 +402,7 @@ fn a35_and_a36_and_a40_table_of_p() {
 }
 
 #[test]
-fn a38_toggle() {
+fn toggle() {
     for code in 0..4u8 {
         let mut chip = Bench::p();
         chip.record.mr0 = code << 5;
@@ -425,7 +425,7 @@ fn a38_toggle() {
 }
 
 #[test]
-fn a39_every_memory_command_of_p_wraps() {
+fn every_memory_command_of_p_wraps() {
     for (opcode, mode, wait) in [
         (0x03, 1, 0),
         (0x0B, 1, 8),
@@ -468,7 +468,7 @@ fn a39_every_memory_command_of_p_wraps() {
 }
 
 #[test]
-fn a42_arming() {
+fn arming() {
     for part in [M, P, M32] {
         let mut chip = Bench::new(part, 10);
         assert_eq!(chip.say(&[0x66]), 0);
@@ -508,7 +508,7 @@ fn a42_arming() {
 }
 
 #[test]
-fn a43_no_reset_asleep() {
+fn no_reset_asleep() {
     let mut chip = Bench::m();
     chip.record.asleep = true;
     assert_eq!(chip.say(&[0x66]), 6);
@@ -518,7 +518,7 @@ fn a43_no_reset_asleep() {
 }
 
 #[test]
-fn a44_reset_and_power_cycle() {
+fn reset_and_power_cycle() {
     let deep_m = || {
         let mut chip = Bench::m().marked();
         chip.record.status = 0x2C;
@@ -578,7 +578,7 @@ fn a44_reset_and_power_cycle() {
 }
 
 #[test]
-fn a45_checks_of_a_power_cycle() {
+fn checks_of_a_power_cycle() {
     let mut chip = Bench::p().marked();
     chip.memory.push(1);
     let (record, memory) = (chip.record, chip.memory.clone());
@@ -595,7 +595,7 @@ fn a45_checks_of_a_power_cycle() {
 }
 
 #[test]
-fn a46_to_a48_order_and_counts() {
+fn order_and_counts() {
     let mut chip = Bench::m();
     chip.record.asleep = true;
     assert_eq!(chip.full(&on(1, &[0x0A, 0])), (6, five(8, 0, 0, 0, 8)));
@@ -612,7 +612,7 @@ fn a46_to_a48_order_and_counts() {
 }
 
 #[test]
-fn a69_ignored_address_bits_of_p() {
+fn ignored_address_bits_of_p() {
     for n in [10u8, 14, 21] {
         let mut chip = Bench::new(P, n);
         for bit in n..24 {

@@ -2,7 +2,6 @@
 use bench_columns::column;
 use bench_columns::digest_column;
 use bench_columns::five;
-use parts::Part;
 use record::Answer;
 use record::Device;
 use record::Outcome;
@@ -75,15 +74,9 @@ pub fn state_columns(text: &mut [u8], at: usize, d: Device) -> usize {
     registers(text, c, d)
 }
 
-// The name of the part.
+// The name of the part, by its number in the list.
 fn part(text: &mut [u8], at: usize, d: Device) -> usize {
-    let p = Part::of(d.make.part);
-    let n = match p {
-        Part::M => 0,
-        Part::P => 1,
-        Part::M32 => 2,
-    };
-    put_word(text, at, b" M| P| M32", n)
+    put_word(text, at, b"| M| P| M32", d.make.part as usize)
 }
 
 // The chip: its part, its state, its serial number.

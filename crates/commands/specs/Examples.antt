@@ -5,11 +5,12 @@ use mathlib.Core.List.{List, [], _∷_, map}
 use Prim.Native.Nat.{ℕ}
 use lib.Dec.{T}
 use Rattle.basis.specs.Examples.{all, same}
+use Rattle.basis.specs.Rows.{keys}
 use Rattle.parts.specs.declared.Part.{Part}
 use Rattle.parts.specs.declared.Part.the-variants.{M, P, M32}
 use Rattle.commands.specs.declared.registers.Mapped.{Mapped}
 use Rattle.commands.specs.declared.registers.Mapped.the-variants.{At, Nowhere}
-use Rattle.commands.specs.Registers.{bytesOf, tablePlace, mappedOf}
+use Rattle.commands.specs.Registers.{bytesOf, tablePlace, mapOf, mappedOf}
 
 -- what 65 finds at an address: the register's place in the tables and its bytes, or nothing
 abbrev found : Mapped → List ℕ
@@ -36,14 +37,18 @@ nowhere = 0x01 ∷ 0x06 ∷ 0x07 ∷ 0x31 ∷ 0x47 ∷ 0x7F ∷ 0x81 ∷ 0x87 �
 
 unfoldable pub examples : List Bool
 examples =
-    common M
+    -- the addresses, all of them
+    same (keys (mapOf M)) (0x00 ∷ 0x02 ∷ 0x03 ∷ 0x04 ∷ 0x05 ∷ 0x30 ∷ 0x40 ∷ [])
+    ∷ same (keys (mapOf M32)) (0x80 ∷ 0x00 ∷ 0x02 ∷ 0x03 ∷ 0x04 ∷ 0x05 ∷ 0x30 ∷ 0x40 ∷ [])
+    ∷ same (keys (mapOf P)) []
+    -- and what each of them finds
+    ∷ common M
     ∷ common M32
     -- the serial number, eight bytes, on part M32 alone
     ∷ same (found (mappedOf M32 0x80)) (9 ∷ 8 ∷ [])
     ∷ same (found (mappedOf M 0x80)) []
     ∷ all (map (λ a. same (found (mappedOf M a)) []) nowhere)
     ∷ all (map (λ a. same (found (mappedOf M32 a)) []) nowhere)
-    ∷ same (found (mappedOf P 0x00)) []
     ∷ []
 
 pub examples-hold : T (all examples)

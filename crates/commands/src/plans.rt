@@ -82,7 +82,7 @@ fn column(w: Wires) -> usize
     }
 }
 
-// The clocks between address and data. Those of the augmented read, which only part M has, stand in the low
+// The clocks between address and data. Those of the augmented read, which only the MRAM has, stand in the low
 // four bits of configuration 2.
 pub fn wait_of(k: Kind, w: Wires, cr2: u8) -> Clocks
     ensures { λ r. ⌜ r ≡ waitOf k w cr2 ⌝ }

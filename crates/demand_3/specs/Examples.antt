@@ -4,7 +4,7 @@
 -- Assumes nothing.
 use mathlib.Core.Path.{_≡_, refl}
 use Prim.Native.Nat.{ℕ}
-use mathlib.Core.Bool.{Bool, true, _&&_}
+use mathlib.Core.Bool.{Bool, true, false, _&&_}
 use mathlib.Core.List.{List, [], _∷_, _++_, map, List·Permᴰ·cons, List·Permᴰ·swap, List·Permᴰ·trans}
 use lib.Dec.{T, eqb, lit≤}
 use lib.ListN.{length, getD, replicate}
@@ -61,16 +61,20 @@ fitting l = map (λ (f : List (List ℕ)). map fitted f) l
 abbrev roomy : List (List (List ℕ)) → List (List Call)
 roomy l = map (λ (f : List (List ℕ)). map (λ (xs : List ℕ). record { samples = xs; room = replicate 80 0xFF }) f) l
 
--- ---- part M, armed by accident, its top 16 bytes protected
+-- ---- a part of the MRAM, armed by accident, its top 16 bytes protected
 abbrev chipMram : Part → Chip
 chipMram p = record { device = armTo true (statusTo 0x04 (freshOf (makeOf p 10) (blank 8) (blank 8))); lent = record { memory = blank 1024; area = blank (areaOf p .0) } }
 
 abbrev chipM : Chip
 chipM = chipMram M
 
--- and part M32 so
 abbrev chipM32 : Chip
 chipM32 = chipMram M32
+
+-- which of the two
+abbrev mram : Bool → Chip
+mram true = chipM
+mram false = chipM32
 
 abbrev past-top : List (List ℕ)
 past-top = enables ∷ writes One 0x02 0x3FE (1 ∷ 2 ∷ 3 ∷ 4 ∷ []) ∷ []
@@ -103,38 +107,31 @@ abbrev listP : List (List (List ℕ))
 listP = lapping ∷ folded ∷ []
 
 -- ---- the premises hold
-ready-M : Ready chipM
+ready-mram : (first : Bool) → Ready (mram first)
 unfolding shiftOf gatherFrom spelled groupOf spreadAll meaningOf mappedOf statusAllowed cr3Allowed cr4Allowed configurationsAllowed modeRegisterAllowed modeAllowed zeros mramRegisters psramRegisters mramVolatile psramVolatile mramIdentity psramIdentity validOf readSpan writeSpan placeIn shutMemory sectionShut protectedOf areaProtectedOf asleepFor refusedAt stopped decided commandClocks wiresFor addressClocks waitClocks bodyFor kindRead addressRead readingOf bytesIn dataBytes protectedAt putAt howMany allShut takeAll byteRead levelAt along judge unarmed latchMissing offered sizedFor roomFor sampled sentBytes factsOf storedBy outputOf over clockedOf transactOf
-ready-M = record { sized = refl; valid = refl; awake = refl }
-
-ready-M32 : Ready chipM32
-unfolding shiftOf gatherFrom spelled groupOf spreadAll meaningOf mappedOf statusAllowed cr3Allowed cr4Allowed configurationsAllowed modeRegisterAllowed modeAllowed zeros mramRegisters psramRegisters mramVolatile psramVolatile mramIdentity psramIdentity validOf readSpan writeSpan placeIn shutMemory sectionShut protectedOf areaProtectedOf asleepFor refusedAt stopped decided commandClocks wiresFor addressClocks waitClocks bodyFor kindRead addressRead readingOf bytesIn dataBytes protectedAt putAt howMany allShut takeAll byteRead levelAt along judge unarmed latchMissing offered sizedFor roomFor sampled sentBytes factsOf storedBy outputOf over clockedOf transactOf
-ready-M32 = record { sized = refl; valid = refl; awake = refl }
+ready-mram true = record { sized = refl; valid = refl; awake = refl }
+ready-mram false = record { sized = refl; valid = refl; awake = refl }
 
 ready-P : Ready chipP
 unfolding shiftOf gatherFrom spelled groupOf spreadAll meaningOf mappedOf statusAllowed cr3Allowed cr4Allowed configurationsAllowed modeRegisterAllowed modeAllowed zeros mramRegisters psramRegisters mramVolatile psramVolatile mramIdentity psramIdentity validOf readSpan writeSpan placeIn shutMemory sectionShut protectedOf areaProtectedOf asleepFor refusedAt stopped decided commandClocks wiresFor addressClocks waitClocks bodyFor kindRead addressRead readingOf bytesIn dataBytes protectedAt putAt howMany allShut takeAll byteRead levelAt along judge unarmed latchMissing offered sizedFor roomFor sampled sentBytes factsOf storedBy outputOf over clockedOf transactOf
 ready-P = record { sized = refl; valid = refl; awake = refl }
 
-enabling : Enabling chipM enables
+enabling : (first : Bool) → Enabling (mram first) enables
 unfolding shiftOf gatherFrom spelled groupOf spreadAll meaningOf mappedOf statusAllowed cr3Allowed cr4Allowed configurationsAllowed modeRegisterAllowed modeAllowed zeros mramRegisters psramRegisters mramVolatile psramVolatile mramIdentity psramIdentity validOf readSpan writeSpan placeIn shutMemory sectionShut protectedOf areaProtectedOf asleepFor refusedAt stopped decided commandClocks wiresFor addressClocks waitClocks bodyFor kindRead addressRead readingOf bytesIn dataBytes protectedAt putAt howMany allShut takeAll byteRead levelAt along judge unarmed latchMissing offered sizedFor roomFor sampled sentBytes factsOf storedBy outputOf over clockedOf transactOf
-enabling = record { kind = refl; done = refl }
+enabling true = record { kind = refl; done = refl }
+enabling false = record { kind = refl; done = refl }
 
-enabling-M32 : Enabling chipM32 enables
-unfolding shiftOf gatherFrom spelled groupOf spreadAll meaningOf mappedOf statusAllowed cr3Allowed cr4Allowed configurationsAllowed modeRegisterAllowed modeAllowed zeros mramRegisters psramRegisters mramVolatile psramVolatile mramIdentity psramIdentity validOf readSpan writeSpan placeIn shutMemory sectionShut protectedOf areaProtectedOf asleepFor refusedAt stopped decided commandClocks wiresFor addressClocks waitClocks bodyFor kindRead addressRead readingOf bytesIn dataBytes protectedAt putAt howMany allShut takeAll byteRead levelAt along judge unarmed latchMissing offered sizedFor roomFor sampled sentBytes factsOf storedBy outputOf over clockedOf transactOf
-enabling-M32 = record { kind = refl; done = refl }
+first-two : (first : Bool) → Every (Episode (mram first)) listM32
+unfolding aimed shiftOf gatherFrom spelled groupOf spreadAll meaningOf mappedOf statusAllowed cr3Allowed cr4Allowed configurationsAllowed modeRegisterAllowed modeAllowed zeros mramRegisters psramRegisters mramVolatile psramVolatile mramIdentity psramIdentity validOf readSpan writeSpan placeIn shutMemory sectionShut protectedOf areaProtectedOf asleepFor refusedAt stopped decided commandClocks wiresFor addressClocks waitClocks bodyFor kindRead addressRead readingOf bytesIn dataBytes protectedAt putAt howMany allShut takeAll byteRead levelAt along judge unarmed latchMissing offered sizedFor roomFor sampled sentBytes factsOf storedBy outputOf over clockedOf transactOf
+first-two true = (record { family = refl; enable = enabling true; write = record { few = refl; levels = refl; way = Writes.Plain; kind = refl; reach = refl; some = lit≤ tt } }, (record { family = refl; enable = enabling true; write = record { few = refl; levels = refl; way = Writes.Plain; kind = refl; reach = refl; some = lit≤ tt } }, tt))
+first-two false = (record { family = refl; enable = enabling false; write = record { few = refl; levels = refl; way = Writes.Plain; kind = refl; reach = refl; some = lit≤ tt } }, (record { family = refl; enable = enabling false; write = record { few = refl; levels = refl; way = Writes.Plain; kind = refl; reach = refl; some = lit≤ tt } }, tt))
+
+the-third : Episode chipM beside
+unfolding aimed shiftOf gatherFrom spelled groupOf spreadAll meaningOf mappedOf statusAllowed cr3Allowed cr4Allowed configurationsAllowed modeRegisterAllowed modeAllowed zeros mramRegisters psramRegisters mramVolatile psramVolatile mramIdentity psramIdentity validOf readSpan writeSpan placeIn shutMemory sectionShut protectedOf areaProtectedOf asleepFor refusedAt stopped decided commandClocks wiresFor addressClocks waitClocks bodyFor kindRead addressRead readingOf bytesIn dataBytes protectedAt putAt howMany allShut takeAll byteRead levelAt along judge unarmed latchMissing offered sizedFor roomFor sampled sentBytes factsOf storedBy outputOf over clockedOf transactOf
+the-third = record { family = refl; enable = enabling true; write = record { few = refl; levels = refl; way = Writes.Plain; kind = refl; reach = refl; some = lit≤ tt } }
 
 episodes-M : Every (Episode chipM) listM
-unfolding aimed shiftOf gatherFrom spelled groupOf spreadAll meaningOf mappedOf statusAllowed cr3Allowed cr4Allowed configurationsAllowed modeRegisterAllowed modeAllowed zeros mramRegisters psramRegisters mramVolatile psramVolatile mramIdentity psramIdentity validOf readSpan writeSpan placeIn shutMemory sectionShut protectedOf areaProtectedOf asleepFor refusedAt stopped decided commandClocks wiresFor addressClocks waitClocks bodyFor kindRead addressRead readingOf bytesIn dataBytes protectedAt putAt howMany allShut takeAll byteRead levelAt along judge unarmed latchMissing offered sizedFor roomFor sampled sentBytes factsOf storedBy outputOf over clockedOf transactOf
-episodes-M = (
-  record { family = refl; enable = enabling; write = record { few = refl; levels = refl; way = Writes.Plain; kind = refl; reach = refl; some = lit≤ tt } },
-  (
-    record { family = refl; enable = enabling; write = record { few = refl; levels = refl; way = Writes.Plain; kind = refl; reach = refl; some = lit≤ tt } },
-    (
-      record { family = refl; enable = enabling; write = record { few = refl; levels = refl; way = Writes.Plain; kind = refl; reach = refl; some = lit≤ tt } },
-      tt,
-    ),
-  ),
-)
+episodes-M = (first-two true .0, (first-two true .1 .0, (the-third, tt)))
 
 episodes-P : Every (Episode chipP) listP
 unfolding aimed shiftOf gatherFrom spelled groupOf spreadAll meaningOf mappedOf statusAllowed cr3Allowed cr4Allowed configurationsAllowed modeRegisterAllowed modeAllowed zeros mramRegisters psramRegisters mramVolatile psramVolatile mramIdentity psramIdentity validOf readSpan writeSpan placeIn shutMemory sectionShut protectedOf areaProtectedOf asleepFor refusedAt stopped decided commandClocks wiresFor addressClocks waitClocks bodyFor kindRead addressRead readingOf bytesIn dataBytes protectedAt putAt howMany allShut takeAll byteRead levelAt along judge unarmed latchMissing offered sizedFor roomFor sampled sentBytes factsOf storedBy outputOf over clockedOf transactOf
@@ -146,36 +143,22 @@ episodes-P = (
   ),
 )
 
-episodes-M32 : Every (Episode chipM32) listM32
-unfolding aimed shiftOf gatherFrom spelled groupOf spreadAll meaningOf mappedOf statusAllowed cr3Allowed cr4Allowed configurationsAllowed modeRegisterAllowed modeAllowed zeros mramRegisters psramRegisters mramVolatile psramVolatile mramIdentity psramIdentity validOf readSpan writeSpan placeIn shutMemory sectionShut protectedOf areaProtectedOf asleepFor refusedAt stopped decided commandClocks wiresFor addressClocks waitClocks bodyFor kindRead addressRead readingOf bytesIn dataBytes protectedAt putAt howMany allShut takeAll byteRead levelAt along judge unarmed latchMissing offered sizedFor roomFor sampled sentBytes factsOf storedBy outputOf over clockedOf transactOf
-episodes-M32 = (
-  record { family = refl; enable = enabling-M32; write = record { few = refl; levels = refl; way = Writes.Plain; kind = refl; reach = refl; some = lit≤ tt } },
-  (
-    record { family = refl; enable = enabling-M32; write = record { few = refl; levels = refl; way = Writes.Plain; kind = refl; reach = refl; some = lit≤ tt } },
-    tt,
-  ),
-)
-
-apart-M : allDisjoint (settingOf (chipM .device)) listM ≡ true
+apart-M : (allDisjoint (settingOf (chipM .device)) listM ≡ true) × (allDisjoint (settingOf (chipM32 .device)) listM32 ≡ true)
 unfolding aimed placesFrom shiftOf gatherFrom spelled groupOf spreadAll meaningOf mappedOf statusAllowed cr3Allowed cr4Allowed configurationsAllowed modeRegisterAllowed modeAllowed zeros mramRegisters psramRegisters mramVolatile psramVolatile mramIdentity psramIdentity validOf readSpan writeSpan placeIn shutMemory sectionShut protectedOf areaProtectedOf asleepFor refusedAt stopped decided commandClocks wiresFor addressClocks waitClocks bodyFor kindRead addressRead readingOf bytesIn dataBytes protectedAt putAt howMany allShut takeAll byteRead levelAt along judge unarmed latchMissing offered sizedFor roomFor sampled sentBytes factsOf storedBy outputOf over clockedOf transactOf
-apart-M = refl
+apart-M = (refl, refl)
 
 apart-P : allDisjoint (settingOf (chipP .device)) listP ≡ true
 unfolding aimed placesFrom shiftOf gatherFrom spelled groupOf spreadAll meaningOf mappedOf statusAllowed cr3Allowed cr4Allowed configurationsAllowed modeRegisterAllowed modeAllowed zeros mramRegisters psramRegisters mramVolatile psramVolatile mramIdentity psramIdentity validOf readSpan writeSpan placeIn shutMemory sectionShut protectedOf areaProtectedOf asleepFor refusedAt stopped decided commandClocks wiresFor addressClocks waitClocks bodyFor kindRead addressRead readingOf bytesIn dataBytes protectedAt putAt howMany allShut takeAll byteRead levelAt along judge unarmed latchMissing offered sizedFor roomFor sampled sentBytes factsOf storedBy outputOf over clockedOf transactOf
 apart-P = refl
 
-apart-M32 : allDisjoint (settingOf (chipM32 .device)) listM32 ≡ true
-unfolding aimed placesFrom shiftOf gatherFrom spelled groupOf spreadAll meaningOf mappedOf statusAllowed cr3Allowed cr4Allowed configurationsAllowed modeRegisterAllowed modeAllowed zeros mramRegisters psramRegisters mramVolatile psramVolatile mramIdentity psramIdentity validOf readSpan writeSpan placeIn shutMemory sectionShut protectedOf areaProtectedOf asleepFor refusedAt stopped decided commandClocks wiresFor addressClocks waitClocks bodyFor kindRead addressRead readingOf bytesIn dataBytes protectedAt putAt howMany allShut takeAll byteRead levelAt along judge unarmed latchMissing offered sizedFor roomFor sampled sentBytes factsOf storedBy outputOf over clockedOf transactOf
-apart-M32 = refl
-
--- SO DEMAND 3 SAYS SOMETHING OF THEM: for part M the list turned round, in longer buffers, for part P the two exchanged
+-- SO DEMAND 3 SAYS SOMETHING OF THEM: for part M the list turned round, in longer buffers, for parts P and M32 the two exchanged
 pub some-order-M : AnyOrder chipM (fitting listM) (roomy (beside ∷ protected ∷ past-top ∷ []))
 unfolding spelled spreadAll
 some-order-M =
-    demand-3 chipM ready-M
+    demand-3 chipM (ready-mram true)
     (List·Permᴰ·trans (List·Permᴰ·swap refl refl) (List·Permᴰ·trans (List·Permᴰ·cons refl (List·Permᴰ·swap refl refl)) (List·Permᴰ·swap refl refl)))
     ((refl, (refl, tt)), ((refl, (refl, tt)), ((refl, (refl, tt)), tt))) ((refl, (refl, tt)), ((refl, (refl, tt)), ((refl, (refl, tt)), tt)))
-    episodes-M (pairwise-apart (settingOf (chipM .device)) listM apart-M)
+    episodes-M (pairwise-apart (settingOf (chipM .device)) listM (apart-M .0))
 
 pub some-order-P : AnyOrder chipP (fitting listP) (fitting (folded ∷ lapping ∷ []))
 unfolding spelled spreadAll
@@ -185,8 +168,8 @@ some-order-P =
 pub some-order-M32 : AnyOrder chipM32 (fitting listM32) (roomy (protected ∷ past-top ∷ []))
 unfolding spelled spreadAll
 some-order-M32 =
-    demand-3 chipM32 ready-M32 (List·Permᴰ·swap refl refl) ((refl, (refl, tt)), ((refl, (refl, tt)), tt)) ((refl, (refl, tt)), ((refl, (refl, tt)), tt))
-    episodes-M32 (pairwise-apart (settingOf (chipM32 .device)) listM32 apart-M32)
+    demand-3 chipM32 (ready-mram false) (List·Permᴰ·swap refl refl) ((refl, (refl, tt)), ((refl, (refl, tt)), tt)) ((refl, (refl, tt)), ((refl, (refl, tt)), tt))
+    (first-two false) (pairwise-apart (settingOf (chipM32 .device)) listM32 (apart-M .1))
 
 -- ---- and it is what the rules compute
 abbrev memoryAt : Chip → List ℕ → List ℕ

@@ -11,13 +11,9 @@ use parts::Part;
 use text::put_word;
 use units::Wires;
 
+// A part, by its number in the list.
 pub fn put_part(page: &mut [u8], at: usize, p: Part) -> usize {
-    let n = match p {
-        Part::M => 0,
-        Part::P => 1,
-        Part::M32 => 2,
-    };
-    put_word(page, at, b"part M|part P|part M32", n)
+    put_word(page, at, b"|part M|part P|part M32", p.number() as usize)
 }
 
 pub fn put_wires(page: &mut [u8], at: usize, w: Wires) -> usize {

@@ -69,7 +69,7 @@ answers r a five =
     eqb (answerNumber (r .answer)) a
     && same (r .counts .command .0 ∷ r .counts .address .0 ∷ r .counts .wait .0 ∷ r .counts .body .0 ∷ r .counts .rest .0 ∷ []) five
 
-abbrev pub memoryAt : World → List ℕ → List ℕ
+abbrev memoryAt : World → List ℕ → List ℕ
 memoryAt r places = map (λ i. getD (r .lent .memory) i 0) places
 
 -- the last sixteen places of such a memory

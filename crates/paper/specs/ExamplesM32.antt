@@ -1,7 +1,7 @@
 -- Document 02, P4, worked out over the definitions: part 3, the MRAM of 32 Mbit, and beside it part 1, which is as before.
 use mathlib.Core.Path.{_≡_, refl}
 use Prim.Native.Nat.{ℕ, _+_, _-_, _^_}
-use mathlib.Core.Bool.{Bool, true, false, not, _&&_}
+use mathlib.Core.Bool.{Bool, true, not, _&&_}
 use mathlib.Core.List.{List, [], _∷_, _++_, map}
 use lib.Dec.{T, eqb}
 use lib.ListN.{length, getD, set, replicate}
@@ -36,7 +36,7 @@ use Rattle.paper.specs.Answers.{judge, unarmed}
 use Rattle.paper.specs.Building.{Order, kindAsked, beyond, overlong, spreadAll, builtOf, buildOf}
 use Rattle.paper.specs.Collecting.{seenIn, strange, collected, collectOf}
 use Rattle.paper.specs.Transaction.{World, sizedFor, roomFor, sampled, sentBytes, factsOf, storedBy, outputOf, over, clockedOf, transactOf}
-use Rattle.paper.specs.Examples.{blank, byte, address, sent, answers, memoryAt, asks}
+use Rattle.paper.specs.Examples.{blank, byte, address, sent, answers, asks}
 
 -- a fresh chip of 2^n bytes, its serial number 1 to 8; and such a memory, of zeros, with the part's area
 abbrev chip : Part → ℕ → Device
@@ -49,18 +49,22 @@ on p memory = record { memory = memory; area = blank (areaOf p .0) }
 abbrev grouped : ℕ → Device → Device
 grouped cr3 d = configurationsTo (0x00 ∷ 0x08 ∷ cr3 ∷ 0x05 ∷ []) d
 
-abbrev groups : ℕ → List ℕ
-groups cr3 = byte One 0x87 ++ (byte One 0x00 ++ (byte One 0x08 ++ (byte One cr3 ++ byte One 0x05)))
+abbrev configures : ℕ → List ℕ
+configures cr3 = byte One 0x87 ++ (byte One 0x00 ++ (byte One 0x08 ++ (byte One cr3 ++ byte One 0x05)))
 
 -- the answer to writing it, on a chip with its latch up, and to any transaction of a chip that has it
 abbrev writing : Part → ℕ → ℕ
-writing p cr3 = answerNumber (sent (latchTo true (chip p 10)) (on p (blank 1024)) (groups cr3) .answer)
+writing p cr3 = answerNumber (sent (latchTo true (chip p 10)) (on p (blank 1024)) (configures cr3) .answer)
 
 abbrev having : Part → ℕ → ℕ
 having p cr3 = answerNumber (sent (grouped cr3 (chip p 10)) (on p (blank 1024)) (byte One 0x00) .answer)
 
 abbrev codes : List ℕ
 codes = 0 ∷ 1 ∷ 2 ∷ 3 ∷ 4 ∷ 5 ∷ 6 ∷ 7 ∷ []
+
+-- such answers for each code, while wrapping is off and while it is on
+abbrev forCodes : (ℕ → ℕ) → List ℕ → Bool
+forCodes f told = same (map f codes) told && same (map (λ code. f (0x10 + code)) codes) told
 
 abbrev areaAt : World → List ℕ → List ℕ
 areaAt r places = map (λ i. getD (r .lent .area) i 0) places
@@ -106,11 +110,11 @@ examples =
     ∷ same (asks (chip M32 10) (on M32 (blank 1024)) 0x65 1 0x80 8 1 .buffer) (1 ∷ 2 ∷ 3 ∷ 4 ∷ 5 ∷ 6 ∷ 7 ∷ 8 ∷ replicate 2 0xA5)
     ∷ answers (sent (chip M32 10) (on M32 (blank 1024)) (byte One 0x65 ++ (address One 0x80 ++ blank 72))) 0 (8 ∷ 24 ∷ 8 ∷ 64 ∷ 0 ∷ [])
     ∷ answers (sent (chip M 10) (on M (blank 1024)) (byte One 0x65 ++ (address One 0x80 ++ blank 72))) 7 (8 ∷ 24 ∷ 0 ∷ 0 ∷ 72 ∷ [])
-    -- code 7 is reserved on part 3, and 5, 6 and 7 on part 1: 10 where it is written, 3 where a record has it, also while wrapping is off
-    ∷ same (map (writing M32) codes) (0 ∷ 0 ∷ 0 ∷ 0 ∷ 0 ∷ 0 ∷ 0 ∷ 10 ∷ [])
-    ∷ same (map (having M32) codes) (0 ∷ 0 ∷ 0 ∷ 0 ∷ 0 ∷ 0 ∷ 0 ∷ 3 ∷ [])
-    ∷ same (map (writing M) codes) (0 ∷ 0 ∷ 0 ∷ 0 ∷ 0 ∷ 10 ∷ 10 ∷ 10 ∷ [])
-    ∷ same (map (having M) codes) (0 ∷ 0 ∷ 0 ∷ 0 ∷ 0 ∷ 3 ∷ 3 ∷ 3 ∷ [])
+    -- code 7 is reserved on part 3, and 5, 6 and 7 on part 1: 10 where it is written, 3 where a record has it, whether wrapping is on or off
+    ∷ forCodes (writing M32) (0 ∷ 0 ∷ 0 ∷ 0 ∷ 0 ∷ 0 ∷ 0 ∷ 10 ∷ [])
+    ∷ forCodes (having M32) (0 ∷ 0 ∷ 0 ∷ 0 ∷ 0 ∷ 0 ∷ 0 ∷ 3 ∷ [])
+    ∷ forCodes (writing M) (0 ∷ 0 ∷ 0 ∷ 0 ∷ 0 ∷ 10 ∷ 10 ∷ 10 ∷ [])
+    ∷ forCodes (having M) (0 ∷ 0 ∷ 0 ∷ 0 ∷ 0 ∷ 3 ∷ 3 ∷ 3 ∷ [])
     -- shares of a memory of 2^22 bytes: each upper one begins where Table 15 says, and the byte before it is not protected; all of it is
     ∷ all (map (λ (r : ℕ × ℕ). shut (r .0) (r .1) && not (shut (r .0) (r .1 - 1))) uppers)
     ∷ shut 0x1C 0x000000
@@ -130,15 +134,14 @@ pub examples-hold : T (all examples)
 unfolding examples kindAsked beyond overlong spreadAll builtOf buildOf seenIn strange collected collectOf shiftOf gatherFrom spelled groupOf meaningOf mappedOf statusAllowed cr3Allowed cr4Allowed configurationsAllowed modeRegisterAllowed modeAllowed zeros mramRegisters psramRegisters mramVolatile psramVolatile mramIdentity psramIdentity validOf readSpan writeSpan placeIn shutMemory sectionShut protectedOf areaProtectedOf asleepFor refusedAt stopped decided commandClocks wiresFor addressClocks waitClocks bodyFor kindRead addressRead readingOf bytesIn dataBytes protectedAt putAt howMany allShut takeAll byteRead levelAt along judge unarmed latchMissing offered sizedFor roomFor sampled sentBytes factsOf storedBy outputOf over clockedOf transactOf
 examples-hold = tt
 
--- The largest memory, whatever it holds: part 3 reads its last byte, and has no address past it; part 1 has no such memory.
-module _ (memory : List ℕ) (long : length memory ≡ 2 ^ 22) where
-  pub last-byte : sent (chip M32 22) (on M32 memory) (byte One 0x03 ++ (address One 0x3FFFFF ++ blank 8)) .answer ≡ Done
-  unfolding shiftOf gatherFrom spelled groupOf meaningOf mappedOf statusAllowed cr3Allowed cr4Allowed configurationsAllowed modeAllowed zeros mramRegisters mramVolatile mramIdentity validOf asleepFor refusedAt stopped decided commandClocks wiresFor addressClocks waitClocks bodyFor kindRead addressRead readingOf bytesIn dataBytes howMany allShut takeAll judge unarmed latchMissing offered sizedFor roomFor sampled sentBytes factsOf clockedOf transactOf
-  last-byte = rw long
+-- The largest memory, whatever it holds: part 3 answers 0 to a read of its last byte, and 7 to one past it; part 1 has no such memory.
+abbrev reads : ℕ → List ℕ
+reads a = byte One 0x03 ++ (address One a ++ blank 8)
 
-  pub past-the-last : sent (chip M32 22) (on M32 memory) (byte One 0x03 ++ (address One 0x400000 ++ blank 8)) .answer ≡ Address
+module _ (memory : List ℕ) (long : length memory ≡ 2 ^ 22) where
+  pub largest : (sent (chip M32 22) (on M32 memory) (reads 0x3FFFFF) .answer ≡ Done) × (sent (chip M32 22) (on M32 memory) (reads 0x400000) .answer ≡ Address)
   unfolding shiftOf gatherFrom spelled groupOf meaningOf mappedOf statusAllowed cr3Allowed cr4Allowed configurationsAllowed modeAllowed zeros mramRegisters mramVolatile mramIdentity validOf asleepFor refusedAt stopped decided commandClocks wiresFor addressClocks waitClocks bodyFor kindRead addressRead readingOf bytesIn dataBytes howMany allShut takeAll judge unarmed latchMissing offered sizedFor roomFor sampled sentBytes factsOf clockedOf transactOf
-  past-the-last = rw long
+  largest = (rw long, rw long)
 
   pub none-of-part-1 : (xs out : List ℕ) → transactOf (chip M 22) (on M memory) xs out .answer ≡ Size
   unfolding offered sizedFor transactOf

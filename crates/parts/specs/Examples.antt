@@ -1,5 +1,5 @@
 -- The limits of the parts, a row for each, in the papers' own numbers: of parts 1 and 2 document 01's ("Commands of part M", "Commands of part P"), of part 3
--- those of document 02, P4, and of its source document (Tables 4 and 16). So a change of one part's limits is seen here, and one that was not meant is refused.
+-- those of document 02, P4, and of its source document (Tables 4, 5, 16 and 22). So a change of one part's limits is seen here, and one that was not meant is refused.
 use mathlib.Core.Bool.{Bool, not}
 use mathlib.Core.List.{List, [], _∷_, map}
 use Prim.Native.Nat.{ℕ, _*_}

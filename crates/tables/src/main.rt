@@ -226,15 +226,12 @@ fn put_holders(page: &mut [u8], at: usize, too: bool) -> usize {
 
 // ---- the register map
 
-fn mapped_kind(m: Mapped) -> Kind {
-    match m {
+// What 65 reads at an address.
+fn kind_at(p: Part, address: u32) -> Kind {
+    match register_at(p, address) {
         Mapped::At(r) => Kind::Read(Source::Register(r)),
         Mapped::Nowhere => Kind::Unknown,
     }
-}
-
-fn kind_at(p: Part, address: u32) -> Kind {
-    mapped_kind(register_at(p, address))
 }
 
 // A register of part M32, whose map has all that part M's has.
@@ -277,12 +274,12 @@ fn wrap_row(page: &mut [u8], code: u8) {
 fn row(page: &mut [u8], table: u8, i: u32) {
     let b = (i % 256) as u8;
     match table {
-        0 => command_row(page, Part::M, b),
-        1 => command_row(page, Part::P, b),
-        2 => map_row(page, i),
-        3 => number_row(page, i as u64, share(b % 8 * 4) as u64),
-        4 => wrap_row(page, b),
-        5 => part_row(page, b),
+        0 => part_row(page, b),
+        1 => command_row(page, Part::M, b),
+        2 => command_row(page, Part::P, b),
+        3 => map_row(page, i),
+        4 => number_row(page, i as u64, share(b % 8 * 4) as u64),
+        5 => wrap_row(page, b),
         _ => number_row(page, i as u64, group_length(b % 4 * 32).in_bytes() as u64),
     }
 }
@@ -304,28 +301,28 @@ fn main() {
     let mut page = [0u8; 512];
     head(
         &mut page,
-        b"\n### Parts\n\n| number | part | n from | n to | area, bytes | section, bytes | codes of groups |\n|---|---|---|---|---|---|---|\n",
+        b"\n### Parts\n\n| number | part | n from | n to | area, bytes | section, bytes | codes in CR3 |\n|---|---|---|---|---|---|---|\n",
     );
-    rows(&mut page, 5, 4);
+    rows(&mut page, 0, 4);
     put_commands(&mut page, b"parts M and M32");
-    rows(&mut page, 0, 256);
-    put_commands(&mut page, b"part P");
     rows(&mut page, 1, 256);
+    put_commands(&mut page, b"part P");
+    rows(&mut page, 2, 256);
     head(
         &mut page,
         b"\n### Registers by address, for 65\n\n| address | on part | register | data, bytes |\n|---|---|---|---|\n",
     );
-    rows(&mut page, 2, 256);
+    rows(&mut page, 3, 256);
     head(
         &mut page,
         b"\n### Protected memory of parts M and M32, by status bits 4 to 2\n\n| code | 64ths |\n|---|---|\n",
     );
-    rows(&mut page, 3, 8);
+    rows(&mut page, 4, 8);
     head(
         &mut page,
         b"\n### Groups of reads of parts M and M32, by CR3[2:0]\n\n| code | on part | bytes |\n|---|---|---|\n",
     );
-    rows(&mut page, 4, PartM32::WRAP_CODES as u32);
+    rows(&mut page, 5, PartM32::WRAP_CODES as u32);
     head(
         &mut page,
         b"\n### Groups of part P, by MR0[6:5]\n\n| code | bytes |\n|---|---|\n",

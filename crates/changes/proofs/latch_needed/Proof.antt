@@ -1,4 +1,4 @@
--- `changes::latch_needed` meets its contract: part M goes by the kind; part P needs no latch.
+-- `changes::latch_needed` meets its contract: the MRAM goes by the kind; the PSRAM needs no latch.
 -- Assumes nothing.
 use borrow.Author.Needs.{needs}
 use Rattle.changes.proofs.latch_needed.Statement.{statement}

@@ -1,6 +1,5 @@
--- `state_check::mode_allowed` meets its contract: 1 and 4 are modes of both parts, 2 of part M, and no other number is a mode.
+-- `state_check::mode_allowed` meets its contract: 1 and 4 are modes of both families, 2 of the MRAM, and no other number is a mode.
 -- Assumes nothing.
-use Rattle.parts.specs.declared.Part.the-variants.{M}
 use Rattle.state_check.specs.States.{modeAllowed}
 use Rattle.state_check.specs.StateLaws.{mode-one, mode-four, mode-other}
 use borrow.Author.Needs.{needs}

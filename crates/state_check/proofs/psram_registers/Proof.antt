@@ -1,4 +1,4 @@
--- `state_check::psram_registers` meets its contract: the other part's registers are 0, and then the mode register decides.
+-- `state_check::psram_registers` meets its contract: the other family's registers are 0, and then the mode register decides.
 -- Assumes nothing.
 use borrow.Author.Tests.{not-true, not-false}
 use Rattle.state_check.specs.States.{psramRegisters, zeros}
