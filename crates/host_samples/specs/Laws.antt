@@ -27,12 +27,6 @@ none-above w below v h l =
     let e : v / 2 ^ (wiresOf w * below) ≡ 0 = div-eq-of-lt (lt-of-lt-of-le h (pow-mono {i = 32} {j = wiresOf w * below} l)) in
     rw (e, zero-mod)
 
--- every clock has a bit at least
-pub below-many : (w : Wires) (below : ℕ) → 32 ≤ below → 32 ≤ wiresOf w * below
-below-many One below h = omega arith
-below-many Two below h = omega arith
-below-many Four below h = omega arith
-
 -- ---- what is left to send: one of n clocks and then m, or nothing
 module _ {one : Clocks} {t : Bool} (n : Clocks) (o : one ≡ clocks 1) (a : t ≡ atMost one n) where
   pub some-left : t ≡ true → one .0 ≤ n .0

@@ -1,4 +1,4 @@
--- The answers and the papers' numbers for them. Document 01, "Answer numbers, in order of checking".
+-- The answers and the papers' numbers for them. Document 01, "Answer numbers, in order of checking"; document 02, P1 (13).
 use Prim.Native.Nat.{ℕ}
 use mathlib.Core.Bool.{Bool, true, false}
 use mathlib.Core.List.{List, [], _∷_, map}
@@ -7,7 +7,7 @@ use Rattle.basis.specs.Rows.{look}
 use Rattle.record.specs.declared.answers.Answer.{Answer}
 use Rattle.record.specs.declared.answers.Class.{Class}
 use Rattle.record.specs.declared.answers.Class.the-variants as Of
-use Rattle.record.specs.declared.answers.Answer.the-variants.{Done, Size, Sample, State, Short, Unknown, Asleep, Address, Latch, Protected, Reserved, Long, Unarmed}
+use Rattle.record.specs.declared.answers.Answer.the-variants.{Done, Size, Sample, State, Short, Unknown, Asleep, Address, Latch, Protected, Reserved, Long, Unarmed, Turn}
 
 abbrev pub answerNumber : Answer → ℕ
 answerNumber Done = 0
@@ -23,6 +23,8 @@ answerNumber Protected = 9
 answerNumber Reserved = 10
 answerNumber Long = 11
 answerNumber Unarmed = 12
+-- a call out of turn. Document 02, P1
+answerNumber Turn = 13
 
 -- What became of a call: done, 0; refused, and nothing was clocked; or declined by the device after the clocks. Document 01, the last column of the table (D53)
 abbrev pub classOf : Answer → Class
@@ -39,6 +41,7 @@ classOf Protected = Of.Declined
 classOf Reserved = Of.Declined
 classOf Long = Of.Declined
 classOf Unarmed = Of.Declined
+classOf Turn = Of.Refused
 
 abbrev pub doneIn : Class → Bool
 doneIn Of.Done = true
@@ -66,7 +69,7 @@ declines v = declinedIn (classOf v)
 
 -- the same of a number, where that is all there is: C has the answer as a number
 abbrev pub answers : List Answer
-answers = Done ∷ Size ∷ Sample ∷ State ∷ Short ∷ Unknown ∷ Asleep ∷ Address ∷ Latch ∷ Protected ∷ Reserved ∷ Long ∷ Unarmed ∷ []
+answers = Done ∷ Size ∷ Sample ∷ State ∷ Short ∷ Unknown ∷ Asleep ∷ Address ∷ Latch ∷ Protected ∷ Reserved ∷ Long ∷ Unarmed ∷ Turn ∷ []
 
 abbrev pub refusing : ℕ → Bool
 refusing n = look false (map (λ v. (answerNumber v, refuses v)) answers) n

@@ -14,6 +14,7 @@ use Rattle.record.specs.declared.devices.Volatile.{Volatile}
 use Rattle.record.specs.declared.devices.Identities.{Identities}
 use Rattle.record.specs.declared.devices.Make.{Make}
 use Rattle.record.specs.declared.devices.Device.{Device}
+use Rattle.record.specs.Fields.{noUnderway}
 
 -- mode 1, latch down, disarmed, awake, toggle off
 abbrev pub freshVolatile : Volatile
@@ -47,4 +48,4 @@ makeOf p n = record { part = partNumber p; n = n }
 abbrev pub freshOf : Make → List ℕ → List ℕ → Device
 freshOf m device unique =
     let p = partOf (m .part) in
-    record { make = m; registers = freshRegisters p; volatile = freshVolatile; identity = freshIdentity (familyOf p) device unique }
+    record { make = m; registers = freshRegisters p; volatile = freshVolatile; identity = freshIdentity (familyOf p) device unique; underway = noUnderway }

@@ -9,19 +9,19 @@ use Rattle.parts.specs.declared.Part.{Part}
 use Rattle.parts.specs.declared.Part.the-variants.{M, P, M32}
 use Rattle.parts.specs.Parts.{partOf, familyOf}
 use Rattle.record.specs.declared.answers.Answer.{Answer}
-use Rattle.record.specs.declared.answers.Answer.the-variants.{Done, Size, Sample, State, Short, Unknown, Asleep, Address, Latch, Protected, Reserved, Long, Unarmed}
+use Rattle.record.specs.declared.answers.Answer.the-variants.{Done, Size, Sample, State, Short, Unknown, Asleep, Address, Latch, Protected, Reserved, Long, Unarmed, Turn}
 use Rattle.record.specs.declared.answers.Class.{Class}
 use Rattle.record.specs.declared.answers.Class.the-variants as Of
 use Rattle.record.specs.declared.devices.Make.{Make}
 use Rattle.record.specs.declared.devices.Device.{Device}
 use Rattle.record.specs.Answers.{answerNumber, doneIn, refusedIn, declinedIn, refuses, refusing}
 use Rattle.record.specs.Fresh.{freshRegisters, freshVolatile, freshIdentity, freshOf}
-use Rattle.record.specs.Fields.{armTo, sleepTo}
+use Rattle.record.specs.Fields.{armTo, sleepTo, noUnderway}
 use Rattle.record.specs.Resets.{resetFor, resetOf, poweredOf}
 
 module _ (m : Make) (device unique : List ℕ) where
   abbrev new : Part → Device
-  new p = record { make = m; registers = freshRegisters p; volatile = freshVolatile; identity = freshIdentity (familyOf p) device unique }
+  new p = record { make = m; registers = freshRegisters p; volatile = freshVolatile; identity = freshIdentity (familyOf p) device unique; underway = noUnderway }
 
   reset-new : (p : Part) → resetFor (familyOf p) (new p) ≡ new p
   reset-new M = refl
@@ -56,3 +56,4 @@ refusing-is Protected = refl
 refusing-is Reserved = refl
 refusing-is Long = refl
 refusing-is Unarmed = refl
+refusing-is Turn = refl

@@ -1,7 +1,7 @@
 pub mod Answers
 pub mod Devices
-pub mod Fresh
 pub mod Fields
+pub mod Fresh
 pub mod Resets
 pub mod Shows
 pub mod Laws

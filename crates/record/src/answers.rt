@@ -17,6 +17,7 @@ pub enum Answer {
     Reserved,
     Long,
     Unarmed,
+    Turn,
 }
 
 pub fn answer_number(a: Answer) -> u8
@@ -36,6 +37,7 @@ pub fn answer_number(a: Answer) -> u8
         Answer::Reserved => 10,
         Answer::Long => 11,
         Answer::Unarmed => 12,
+        Answer::Turn => 13,
     }
 }
 
@@ -64,6 +66,7 @@ pub fn class_of(a: Answer) -> Class
         Answer::Reserved => Class::Declined,
         Answer::Long => Class::Declined,
         Answer::Unarmed => Class::Declined,
+        Answer::Turn => Class::Refused,
     }
 }
 

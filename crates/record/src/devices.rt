@@ -5,6 +5,7 @@ use crate::answers::Answer;
 use counts::Counts;
 use kinds::Kind;
 use parts::Part;
+use units::Clocks;
 use units::Wires;
 
 // The registers that keep their contents without power, and the PSRAM's mode register.
@@ -42,11 +43,24 @@ pub struct Make {
     pub n: u8,
 }
 
+// The transaction that is open, as far as its clocks have come: only what cannot be worked out from the rest of the record
+// (D85). `selected` tells that one is open, select being low. `opcode` and `address` are 0 until they are whole; `number` has the bits that have come of what is not whole yet, and
+// `value` the whole bytes of a register write. Where none is open all of it is 0.
+pub struct Underway {
+    pub selected: bool,
+    pub clocks: Clocks,
+    pub opcode: u8,
+    pub address: u32,
+    pub number: u32,
+    pub value: [u8; 8],
+}
+
 pub struct Device {
     pub make: Make,
     pub registers: Registers,
     pub volatile: Volatile,
     pub identity: Identities,
+    pub underway: Underway,
 }
 
 // What neither latch nor arming has a part in: all that the rules of clocks, addresses and places ask of

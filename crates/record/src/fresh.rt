@@ -5,6 +5,7 @@ use crate::devices::Device;
 use crate::devices::Identities;
 use crate::devices::Make;
 use crate::devices::Registers;
+use crate::devices::Underway;
 use crate::devices::Volatile;
 use parts::Family;
 use parts::Part;
@@ -95,6 +96,7 @@ impl Device {
             registers: Registers::fresh(part),
             volatile: Volatile::fresh(),
             identity: Identities::fresh(part.family(), device, unique),
+            underway: Underway::none(),
         }
     }
 }

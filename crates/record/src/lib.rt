@@ -23,6 +23,7 @@ pub use devices::Make;
 pub use devices::Outcome;
 pub use devices::Registers;
 pub use devices::Setting;
+pub use devices::Underway;
 pub use devices::Volatile;
 pub use devices::mode_wires;
 pub use devices::unclocked;

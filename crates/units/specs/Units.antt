@@ -44,6 +44,10 @@ atMostBytes b c = leb (b .0) (c .0)
 abbrev pub sameBytes : Bytes → Bytes → Bool
 sameBytes b c = eqb (b .0) (c .0)
 
+-- clocks, but no more than so many
+abbrev pub upTo : Clocks → Clocks → Clocks
+upTo most c = cond (fewer c most) c most
+
 -- no transaction has more clocks. Document 01, "Samples", first sentence, and "Answer numbers", row 1
 abbrev pub longest : Clocks
 longest = clocks 65535

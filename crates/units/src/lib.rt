@@ -10,7 +10,7 @@
 ghost use mathlib.Core.Path.{_≡_};
 ghost use Prim.Native.Nat.{_+_, _≤_, _<_};
 ghost use lib.ListN.{length};
-ghost use Rattle.units.specs.Units.{clocks, bytes, next, nextByte, plus, less, fewer, atMost, fewerBytes, atMostBytes, sameBytes, longest, wiresOf, perByte, clocksOf, clocksWithin, wholeOf, unfinishedOf, byteClocks, comingOf, bitsIn};
+ghost use Rattle.units.specs.Units.{clocks, bytes, next, nextByte, plus, less, upTo, fewer, atMost, fewerBytes, atMostBytes, sameBytes, longest, wiresOf, perByte, clocksOf, clocksWithin, wholeOf, unfinishedOf, byteClocks, comingOf, bitsIn};
 
 // A number of clocks (D18).
 pub struct Clocks(usize);
@@ -81,6 +81,26 @@ impl Clocks {
         ensures { λ r. ⌜ r ≡ less self some ⌝ }
     {
         Clocks(self.0 - some.0)
+    }
+
+    // The clocks past the first so many; none where there are no more than these.
+    pub fn past(self, some: Clocks) -> Clocks
+        ensures { λ r. ⌜ r ≡ less self some ⌝ }
+    {
+        if self.0 < some.0 {
+            return Clocks(0);
+        }
+        Clocks(self.0 - some.0)
+    }
+
+    // These clocks, but no more than so many.
+    pub fn up_to(self, most: Clocks) -> Clocks
+        ensures { λ r. ⌜ r ≡ upTo most self ⌝ }
+    {
+        if self.0 < most.0 {
+            return self;
+        }
+        most
     }
 
     pub fn fewer(self, than: Clocks) -> bool

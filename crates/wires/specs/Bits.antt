@@ -1,10 +1,12 @@
 -- Numbers on wires. Document 01, "Samples", first paragraph. High bits go before low ones (D6), and each clock carries as many as there are wires. The
 -- higher bit of a pair stands on the higher wire, and so do the bits of a nibble: the bits of a clock are the low bits of its sample, as a number.
 use Prim.Native.Nat.{ℕ, zero, suc, _+_, _*_, _/_, _%_, _^_, _-_}
+use mathlib.Core.Bool.{Bool}
 use mathlib.Core.List.{List, [], _∷_}
+use lib.Dec.{ltb}
 use Rattle.units.specs.declared.Clocks.{Clocks}
 use Rattle.units.specs.declared.Wires.{Wires}
-use Rattle.units.specs.Units.{wiresOf, perByte}
+use Rattle.units.specs.Units.{wiresOf, perByte, bitsIn}
 
 -- the bits of one clock; the sample's other wires say nothing
 abbrev pub bitsOf : Wires → ℕ → ℕ
@@ -22,6 +24,10 @@ gatherFrom w number (x ∷ xs) = gatherFrom w (shiftOf w number x) xs
 
 abbrev pub gather : Wires → List ℕ → ℕ
 gather w xs = gatherFrom w 0 xs
+
+-- a number has no more bits than so many clocks bring; 0 has none
+unfoldable pub fitsIn : Wires → Clocks → ℕ → Bool
+fitsIn w c v = ltb v (2 ^ bitsIn w c)
 
 -- the bits of v that have so many clocks' bits below them
 abbrev pub above : Wires → ℕ → ℕ → ℕ

@@ -1,25 +1,68 @@
 -- Laws of gathering and spreading, each once for any number of wires.
 -- Assumes nothing.
-use mathlib.Core.Path.{_≡_, refl, ap, _∙_}
+use mathlib.Core.Path.{_≡_, refl, sym, ap, _∙_}
 use Prim.Native.Nat.{ℕ, zero, suc, _+_, _*_, _/_, _%_, _^_, _-_, _<_, _≤_}
-use native.Mathlib.Nat.{mul-zero, mul-suc, add-zero, zero-add, mul-one, mod-one, div-one, mul-assoc, add-mul, add-assoc, mod-mod, mod-lt, mod-eq-of-lt, lt-of-lt-of-le, zero-mul, mul-le-mul-left, not-suc-le-zero}
+use native.Mathlib.Nat.{mul-zero, mul-suc, add-zero, zero-add, mul-one, mod-one, div-one, mul-assoc, add-mul, add-assoc, mod-mod, mod-lt, mod-eq-of-lt, lt-of-lt-of-le, zero-mul, mul-le-mul-left, not-suc-le-zero, div-eq-of-lt, lt-div-mul-add}
 use native.Mathlib.Omega.{arith}
+use mathlib.Core.Bool.{Bool, true, false}
 use mathlib.Core.List.{List, [], _∷_, _++_, map}
+use lib.Dec.{eqb}
 use lib.ListN.{length, getD}
+use borrow.Author.Tests.{ltb-true, lt-ltb, eqb-true, eq-eqb}
 use lib.Pow.{pow-add, pow-pos, pow-mono, mod-pow-add, high, low, shr-shr}
 use lib.Arith.{digits-lt}
 use Rattle.units.specs.declared.Wires.{Wires}
 use Rattle.units.specs.declared.Clocks.{Clocks}
 use Rattle.units.specs.declared.Wires.the-variants.{One, Two, Four}
-use Rattle.units.specs.Units.{wiresOf, perByte, comingOf, bitsIn}
+use Rattle.basis.specs.Truth.{untrue}
+use Rattle.units.specs.Units.{clocks, wiresOf, perByte, comingOf, bitsIn}
 use Rattle.units.specs.Laws.{bits-of-byte, perByte-pos}
-use Rattle.wires.specs.Bits.{bitsOf, shiftOf, gatherFrom, gather, above, spelled, groupOf}
+use Rattle.wires.specs.Bits.{bitsOf, shiftOf, gatherFrom, gather, fitsIn, above, spelled, groupOf}
 
 -- fewer than eight bits of a byte come after a clock of it
 pub below-byte : (w : Wires) (k : Clocks) → bitsIn w (comingOf w k) < 8
 below-byte One k = omega arith
 below-byte Two k = omega arith
 below-byte Four k = omega arith
+
+-- every clock has a bit at least
+pub bits-many : (w : Wires) (c : ℕ) → 32 ≤ c → 32 ≤ wiresOf w * c
+bits-many One c h = omega arith
+bits-many Two c h = omega arith
+bits-many Four c h = omega arith
+
+-- ---- a number that fits its clocks
+module _ (w : Wires) (c : Clocks) (v : ℕ) where
+  pub fits-lt : fitsIn w c v ≡ true → v < 2 ^ bitsIn w c
+  unfolding fitsIn
+  fits-lt e = ltb-true v (2 ^ bitsIn w c) e
+
+  pub lt-fits : v < 2 ^ bitsIn w c → fitsIn w c v ≡ true
+  unfolding fitsIn
+  lt-fits h = lt-ltb v (2 ^ bitsIn w c) h
+
+  -- a number of 32 bits fits as many
+  pub fits-all : v < 2 ^ 32 → 32 ≤ bitsIn w c → true ≡ fitsIn w c v
+  fits-all h l = sym (lt-fits (lt-of-lt-of-le h (pow-mono {i = 32} {j = bitsIn w c} l)))
+
+  -- and of fewer, where nothing stands above them
+  pub fits-by : (b : Bool) → eqb (v / 2 ^ bitsIn w c) 0 ≡ b → b ≡ fitsIn w c v
+  fits-by true e =
+      let z = eqb-true (v / 2 ^ bitsIn w c) 0 e in
+      let m : v < v / 2 ^ bitsIn w c * 2 ^ bitsIn w c + 2 ^ bitsIn w c = lt-div-mul-add (pow-pos (bitsIn w c)) in
+      sym (lt-fits (rw (z, zero-mul, zero-add) at m))
+  fits-by false e = sym (by (fitsIn w c v) refl)
+    where
+      by : (t : Bool) → fitsIn w c v ≡ t → fitsIn w c v ≡ false
+      by true h = let z = div-eq-of-lt (fits-lt h) in untrue (sym e ∙ eq-eqb _ 0 z)
+      by false h = h
+
+-- no clock brings no bit but those of 0
+pub fits-none : (w : Wires) (v : ℕ) → fitsIn w (clocks 0) v ≡ true → v ≡ 0
+fits-none w v e = let h = rw mul-zero at (fits-lt w (clocks 0) v e) in omega arith
+
+pub zero-fits : (w : Wires) (c : Clocks) → fitsIn w c 0 ≡ true
+zero-fits w c = lt-fits w c 0 (pow-pos (bitsIn w c))
 
 module _ (w : Wires) where
   -- gathering goes on where it stopped

@@ -2,13 +2,16 @@
 ghost use mathlib.Core.Path.{_≡_};
 ghost use Prim.Native.Nat.{_+_, _*_, _^_};
 ghost use Rattle.units.specs.Units.{wiresOf};
-ghost use Rattle.wires.specs.Bits.{bitsOf, shiftOf, groupOf};
+ghost use Rattle.wires.specs.Bits.{bitsOf, shiftOf, fitsIn, groupOf};
 ghost use Rattle.wires.specs.Levels.{levelOf, seenOf, drivenOf};
 use units::Clocks;
 use units::Wires;
 
 // The register that gathers an address or a byte is 24 bits wide: how many numbers it holds.
 const REGISTER: u64 = 16777216;
+
+// The bits of a number. Every clock carries one at least.
+const NUMBER: usize = 32;
 
 // How many values the bits of one clock have.
 pub fn values(w: Wires) -> u8
@@ -40,6 +43,20 @@ pub fn shift_in(number: u32, x: u8, w: Wires) -> u32
     ensures { λ r. ⌜ r ≡ shiftOf w number x ⌝ }
 {
     (with_bits(number, x, w) % REGISTER) as u32
+}
+
+// Whether a number has no more bits than so many clocks bring.
+pub fn fits(v: u32, c: Clocks, w: Wires) -> bool
+    ensures { λ r. ⌜ r ≡ fitsIn w c v ⌝ }
+{
+    if Clocks::stated(NUMBER).at_most(c) {
+        return true;
+    }
+    let bits = units::bits_in(c, w);
+    if NUMBER <= bits {
+        return true;
+    }
+    v >> bits == 0
 }
 
 // The bits of the byte `b` that travel in clock `k` of it, counted from 0.

@@ -5,7 +5,8 @@ use borrow.Author.Tests.{leb-true, leb-false}
 use native.Mathlib.Nat.{mod-lt, lt-of-lt-of-le, le-of-lt}
 use native.Mathlib.Omega.{arith}
 use lib.Pow.{pow-pos}
-use Rattle.host_samples.specs.Laws.{none-above, below-many}
+use Rattle.wires.specs.Laws.{bits-many}
+use Rattle.host_samples.specs.Laws.{none-above}
 use borrow.Author.Needs.{needs}
 use Rattle.host_samples.proofs.bits_above.Statement.{statement}
 use Rattle.host_samples.proofs.bits_above.Tie as tie
@@ -17,7 +18,7 @@ bits-above-spec =
     -- stated-requires, at-most-requires
     (λ c κs. tt) (λ c κs. tt)
     -- returns
-    (λ c. none-above (c .before .before .before .args .w) (c .before .before .before .args .below .0) _ (c .before .before .before .fits .v .fits) (below-many (c .before .before .before .args .w) (c .before .before .before .args .below .0) (leb-true _ _ (sym (rw (c .before .before .stated .ensures) at (c .before .at-most .ensures)) ∙ c .if1 .taken))))
+    (λ c. none-above (c .before .before .before .args .w) (c .before .before .before .args .below .0) _ (c .before .before .before .fits .v .fits) (bits-many (c .before .before .before .args .w) (c .before .before .before .args .below .0) (leb-true _ _ (sym (rw (c .before .before .stated .ensures) at (c .before .at-most .ensures)) ∙ c .if1 .taken))))
     -- bits-in-requires
     (λ c κs. let h = leb-false 32 (c .before .before .before .args .below .0) (sym (rw (c .before .before .stated .ensures) at (c .before .at-most .ensures)) ∙ c .if1 .left) in omega arith)
     -- returns-2
