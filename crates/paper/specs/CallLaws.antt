@@ -10,7 +10,7 @@ use Rattle.counts.specs.Counts.{noCounts}
 use Rattle.record.specs.declared.answers.Answer.{Answer}
 use Rattle.record.specs.declared.devices.Device.{Device}
 use Rattle.record.specs.Answers.{refuses}
-use Rattle.state_check.specs.States.{validOf}
+use Rattle.paper.specs.Underway.{validOf}
 use Rattle.paper.specs.Storing.{Lent}
 use Rattle.paper.specs.Table.{by-row}
 use Rattle.paper.specs.Answers.{Facts, tableFor, judge}
@@ -85,11 +85,12 @@ pub record Accepted (d : Device) (l : Lent) (xs out : List ℕ) : Type 0 where
   pub room : roomFor xs out ≡ true
   pub levels : sampled xs ≡ true
   pub valid : validOf d ≡ true
+  pub turn : d .underway .selected ≡ false
 
 accepting : (d : Device) (l : Lent) (xs out : List ℕ) → NoneHolds (transactChecks d l xs out) → Accepted d l xs out
-accepting d l xs out (sizes, (levels, (state, z))) =
+accepting d l xs out (sizes, (levels, (state, (turn, z)))) =
     let b = both-true (sizedFor d l) (roomFor xs out) (not-untrue _ sizes) in
-    record { sized = b .0; room = b .1; levels = not-untrue _ levels; valid = not-untrue _ state }
+    record { sized = b .0; room = b .1; levels = not-untrue _ levels; valid = not-untrue _ state; turn = turn }
 
 module _ (d : Device) (l : Lent) (xs out : List ℕ) where
   pub transact-refused : refuses (transactOf d l xs out .answer) ≡ true → Untouched d l out (transactOf d l xs out)
@@ -98,13 +99,13 @@ module _ (d : Device) (l : Lent) (xs out : List ℕ) where
 
   pub accepted : refuses (transactOf d l xs out .answer) ≡ false → Accepted d l xs out
   unfolding transactOf
-  accepted e = accepting d l xs out (passed-by d l out (transactChecks d l xs out) (clockedOf d l xs out) (refl, (refl, (refl, tt))) e)
+  accepted e = accepting d l xs out (passed-by d l out (transactChecks d l xs out) (clockedOf d l xs out) (refl, (refl, (refl, (refl, tt)))) e)
 
   pub when-accepted : Accepted d l xs out → transactOf d l xs out ≡ clockedOf d l xs out
   unfolding transactOf
   when-accepted a =
       made-by d l out (transactChecks d l xs out) (clockedOf d l xs out)
-      (rw (a .sized, a .room), (rw (a .levels), (rw (a .valid), tt)))
+      (rw (a .sized, a .room), (rw (a .levels), (rw (a .valid), (a .turn, tt))))
 
   -- what a transaction that is not refused leaves is what its clocks leave
   pub not-refused : refuses (transactOf d l xs out .answer) ≡ false → transactOf d l xs out ≡ clockedOf d l xs out

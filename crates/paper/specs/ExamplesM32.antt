@@ -25,7 +25,8 @@ use Rattle.record.specs.Fresh.{makeOf, freshOf}
 use Rattle.changes.specs.Latches.{latchMissing}
 use Rattle.changes.specs.Changes.{statusTo, protectionTo, configurationsTo, serialTo}
 use Rattle.state_check.specs.Values.{statusAllowed, cr3Allowed, cr4Allowed, configurationsAllowed, modeRegisterAllowed}
-use Rattle.state_check.specs.States.{modeAllowed, zeros, mramRegisters, psramRegisters, mramVolatile, psramVolatile, mramIdentity, psramIdentity, validOf}
+use Rattle.state_check.specs.States.{modeAllowed, zeros, mramRegisters, psramRegisters, mramVolatile, psramVolatile, mramIdentity, psramIdentity, inRange}
+use Rattle.paper.specs.Underway.{validOf, underwayValid, factless}
 use Rattle.places.specs.Places.{readSpan, writeSpan, placeIn}
 use Rattle.places.specs.Protection.{shutMemory, sectionShut, protectedOf, areaProtectedOf}
 use Rattle.paper.specs.InForce.{asleepFor, refusedAt, stopped, decided, commandClocks, wiresFor, addressClocks, waitClocks, bodyFor}
@@ -131,7 +132,7 @@ examples =
     ∷ []
 
 pub examples-hold : T (all examples)
-unfolding examples kindAsked beyond overlong spreadAll builtOf buildOf seenIn strange collected collectOf shiftOf gatherFrom spelled groupOf meaningOf mappedOf statusAllowed cr3Allowed cr4Allowed configurationsAllowed modeRegisterAllowed modeAllowed zeros mramRegisters psramRegisters mramVolatile psramVolatile mramIdentity psramIdentity validOf readSpan writeSpan placeIn shutMemory sectionShut protectedOf areaProtectedOf asleepFor refusedAt stopped decided commandClocks wiresFor addressClocks waitClocks bodyFor kindRead addressRead readingOf bytesIn dataBytes protectedAt putAt howMany allShut takeAll byteRead levelAt along judge unarmed latchMissing offered sizedFor roomFor sampled sentBytes factsOf storedBy outputOf over clockedOf transactOf
+unfolding examples kindAsked beyond overlong spreadAll builtOf buildOf seenIn strange collected collectOf shiftOf gatherFrom spelled groupOf meaningOf mappedOf statusAllowed cr3Allowed cr4Allowed configurationsAllowed modeRegisterAllowed modeAllowed zeros mramRegisters psramRegisters mramVolatile psramVolatile mramIdentity psramIdentity validOf inRange underwayValid factless readSpan writeSpan placeIn shutMemory sectionShut protectedOf areaProtectedOf asleepFor refusedAt stopped decided commandClocks wiresFor addressClocks waitClocks bodyFor kindRead addressRead readingOf bytesIn dataBytes protectedAt putAt howMany allShut takeAll byteRead levelAt along judge unarmed latchMissing offered sizedFor roomFor sampled sentBytes factsOf storedBy outputOf over clockedOf transactOf
 examples-hold = tt
 
 -- The largest memory, whatever it holds: part 3 answers 0 to a read of its last byte, and 7 to one past it; part 1 has no such memory.
@@ -140,7 +141,7 @@ reads a = byte One 0x03 ++ (address One a ++ blank 8)
 
 module _ (memory : List ℕ) (long : length memory ≡ 2 ^ 22) where
   pub largest : (sent (chip M32 22) (on M32 memory) (reads 0x3FFFFF) .answer ≡ Done) × (sent (chip M32 22) (on M32 memory) (reads 0x400000) .answer ≡ Address)
-  unfolding shiftOf gatherFrom spelled groupOf meaningOf mappedOf statusAllowed cr3Allowed cr4Allowed configurationsAllowed modeAllowed zeros mramRegisters mramVolatile mramIdentity validOf asleepFor refusedAt stopped decided commandClocks wiresFor addressClocks waitClocks bodyFor kindRead addressRead readingOf bytesIn dataBytes howMany allShut takeAll judge unarmed latchMissing offered sizedFor roomFor sampled sentBytes factsOf clockedOf transactOf
+  unfolding shiftOf gatherFrom spelled groupOf meaningOf mappedOf statusAllowed cr3Allowed cr4Allowed configurationsAllowed modeAllowed zeros mramRegisters mramVolatile mramIdentity validOf inRange underwayValid factless asleepFor refusedAt stopped decided commandClocks wiresFor addressClocks waitClocks bodyFor kindRead addressRead readingOf bytesIn dataBytes howMany allShut takeAll judge unarmed latchMissing offered sizedFor roomFor sampled sentBytes factsOf clockedOf transactOf
   largest = (rw long, rw long)
 
   pub none-of-part-1 : (xs out : List ℕ) → transactOf (chip M 22) (on M memory) xs out .answer ≡ Size

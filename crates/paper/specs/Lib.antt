@@ -1,10 +1,12 @@
 pub mod InForce
 pub mod Reading
+pub mod Underway
 pub mod Storing
 pub mod Driving
 pub mod Table
 pub mod Answers
 pub mod Transaction
+pub mod Meanwhile
 pub mod ReadingLaws
 pub mod CallLaws
 pub mod Building
@@ -12,3 +14,4 @@ pub mod Collecting
 pub mod Laws
 pub mod Examples
 pub mod ExamplesM32
+pub mod ExamplesOpen

@@ -5,7 +5,7 @@ use mathlib.Core.List.{List, [], _∷_}
 use lib.ListN.{length, take, drop}
 use Rattle.units.specs.declared.Clocks.{Clocks}
 use Rattle.units.specs.declared.Wires.{Wires}
-use Rattle.units.specs.Units.{clocks, atMost, perByte, clocksOf, wholeOf}
+use Rattle.units.specs.Units.{clocks, atMost, perByte, clocksOf, clocksWithin, wholeOf}
 use Rattle.wires.specs.Bits.{gather}
 use Rattle.parts.specs.Parts.{familyOf}
 use Rattle.kinds.specs.declared.Kind.{Kind}
@@ -55,6 +55,14 @@ restPart (FixedRead b) w xs = after (clocksOf w b) xs
 restPart AnyRead w xs = []
 restPart (FixedWrite b) w xs = after (clocksOf w b) xs
 restPart AnyWrite w xs = []
+
+-- how many of so many clocks are data clocks
+abbrev pub dataOf : Body → Wires → Clocks → Clocks
+dataOf Nothing w all = clocks 0
+dataOf (FixedRead b) w all = clocksWithin w b all
+dataOf AnyRead w all = all
+dataOf (FixedWrite b) w all = clocksWithin w b all
+dataOf AnyWrite w all = all
 
 -- THE READING: the kind, the address, and the samples of each phase
 pub record Reading : Type 0 where

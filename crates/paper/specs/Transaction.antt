@@ -1,10 +1,11 @@
--- A transaction, whole: what comes in, what goes out. Document 01, "Answer numbers" and "Reset and power" (D23).
+-- A transaction, whole: what comes in, what goes out. Document 01, "Answer numbers" and "Reset and power" (D23); document 02, P1 (13).
 use Prim.Native.Nat.{ℕ}
 use mathlib.Core.Bool.{Bool, true, cond, not, _&&_}
 use mathlib.Core.List.{List, [], _∷_, _++_}
 use lib.Dec.{eqb, ltb}
 use lib.ListN.{length, drop, replicate}
-use Rattle.units.specs.Units.{atMost, longest}
+use Rattle.units.specs.declared.Clocks.{Clocks}
+use Rattle.units.specs.Units.{clocks, plus, atMost, longest}
 use Rattle.basis.specs.Decisions.{firstOf, leadingTo}
 use Rattle.parts.specs.declared.Family.{Family}
 use Rattle.parts.specs.declared.Family.the-variants.{Mram, Psram}
@@ -14,17 +15,18 @@ use Rattle.progress.specs.Progress.{nothingYet}
 use Rattle.counts.specs.declared.Counts.{Counts}
 use Rattle.counts.specs.Counts.{noCounts}
 use Rattle.record.specs.declared.answers.Answer.{Answer}
-use Rattle.record.specs.declared.answers.Answer.the-variants.{Done, Size, Sample, State}
+use Rattle.record.specs.declared.answers.Answer.the-variants.{Done, Size, Sample, State, Turn}
+use Rattle.record.specs.declared.devices.Underway.{Underway}
 use Rattle.record.specs.declared.devices.Device.{Device}
 use Rattle.record.specs.declared.devices.Setting.{Setting}
 use Rattle.record.specs.Devices.{settingOf, aimOf}
 use Rattle.record.specs.Answers.{isDone}
 use Rattle.record.specs.Resets.{poweredOf}
 use Rattle.changes.specs.Changes.{settledOf}
-use Rattle.state_check.specs.States.{validOf}
 use Rattle.places.specs.Addresses.{memorySize}
 use Rattle.paper.specs.InForce.{wiresFor, bodyFor}
 use Rattle.paper.specs.Reading.{Reading, readingOf, many, countsIn, dataBytes}
+use Rattle.paper.specs.Underway.{validOf}
 use Rattle.paper.specs.Storing.{Lent, storeByte, valueByte, takeAll}
 use Rattle.paper.specs.Driving.{drivenAt, along}
 use Rattle.paper.specs.Answers.{Facts, judge}
@@ -110,18 +112,47 @@ refusal d l out v = record { answer = v; counts = noCounts; device = d; lent = l
 abbrev pub guarded : List (Bool × Answer) → (Answer → World) → World → World
 guarded cs refuse w = firstOf w (leadingTo refuse cs)
 
-abbrev pub transactChecks : Device → Lent → List ℕ → List ℕ → List (Bool × Answer)
-transactChecks d l xs out =
-    (not (sizedFor d l && roomFor xs out), Size)
+-- of a call with clocks: `fits` tells whether they are few enough and have room, `turn` whether it is out of turn (13; document 02, P1)
+abbrev pub clockChecks : Device → Lent → List ℕ → Bool → Bool → List (Bool × Answer)
+clockChecks d l xs fits turn =
+    (not (sizedFor d l && fits), Size)
     ∷ (not (sampled xs), Sample)
     ∷ (not (validOf d), State)
+    ∷ (turn, Turn)
     ∷ []
 
-abbrev pub powerChecks : Device → Lent → List (Bool × Answer)
-powerChecks d l =
+-- and of one without
+abbrev pub bareChecks : Device → Lent → Bool → List (Bool × Answer)
+bareChecks d l turn =
     (not (sizedFor d l), Size)
     ∷ (not (validOf d), State)
+    ∷ (turn, Turn)
     ∷ []
+
+-- a whole transaction and a power cycle want none open
+abbrev pub transactChecks : Device → Lent → List ℕ → List ℕ → List (Bool × Answer)
+transactChecks d l xs out = clockChecks d l xs (roomFor xs out) (d .underway .selected)
+
+abbrev pub powerChecks : Device → Lent → List (Bool × Answer)
+powerChecks d l = bareChecks d l (d .underway .selected)
+
+-- ---- and before the calls of a transaction that is fed in chunks. Document 02, P1
+-- the clocks that count with those of a chunk: those of the chunks before it, where one is open
+abbrev pub soFar : Underway → Clocks
+soFar u = cond (u .selected) (u .clocks) (clocks 0)
+
+unfoldable pub roomAfter : Underway → List ℕ → List ℕ → Bool
+roomAfter u xs out = atMost (plus (soFar u) (many xs)) longest && atMost (many xs) (many out)
+
+-- to open wants none open, to feed and to close want one
+abbrev pub openChecks : Device → Lent → List (Bool × Answer)
+openChecks d l = bareChecks d l (d .underway .selected)
+
+abbrev pub feedChecks : Device → Lent → List ℕ → List ℕ → List (Bool × Answer)
+feedChecks d l xs out = clockChecks d l xs (roomAfter (d .underway) xs out) (not (d .underway .selected))
+
+abbrev pub closeChecks : Device → Lent → List (Bool × Answer)
+closeChecks d l = bareChecks d l (not (d .underway .selected))
 
 -- TRANSACT
 unfoldable pub transactOf : Device → Lent → List ℕ → List ℕ → World

@@ -2,6 +2,7 @@
 // whether the command is answered at all.
 ghost use mathlib.Core.Path.{_≡_};
 ghost use Prim.Native.Nat.{_≤_};
+ghost use Rattle.paper.specs.Reading.{dataOf};
 ghost use Rattle.paper.specs.InForce.{wakes, asleepFor, refusedAt, stopped, decided, addressLength, commandClocks, wiresFor, addressClocks, waitClocks, bodyFor};
 use commands::plans::Address;
 use commands::plans::Body;
@@ -16,6 +17,7 @@ use record::Setting;
 use units::Bytes;
 use units::Clocks;
 use units::Wires;
+use units::clocks_within;
 
 // The bytes of an address.
 const ADDRESS: usize = 3;
@@ -142,4 +144,17 @@ pub fn body_for(s: Setting, k: Kind, address: u32) -> Body
     }
     let part = s.part;
     body_of(part, k, address)
+}
+
+// The data clocks among all that there are.
+pub fn data_clocks(b: Body, w: Wires, all: Clocks) -> Clocks
+    ensures { λ r. ⌜ r ≡ dataOf b w all ⌝ }
+{
+    match b {
+        Body::Nothing => Clocks::none(),
+        Body::FixedRead(size) => clocks_within(size, w, all),
+        Body::AnyRead => all,
+        Body::FixedWrite(size) => clocks_within(size, w, all),
+        Body::AnyWrite => all,
+    }
 }

@@ -1,5 +1,5 @@
 -- The state check, row 3 of document 01's "Answer numbers": whether each field of a record is in its range, and those that only the other family has are
--- clear. Part and n are checked before it, by row 1 (D10); what is in range but out of reach passes (D9).
+-- clear. Part and n are checked before it, by row 1 (D10); what is in range but out of reach passes (D9). An open transaction is checked in `paper: Underway`.
 use Prim.Native.Nat.{ℕ, _/_, _%_}
 use mathlib.Core.Bool.{Bool, true, not, _&&_, _||_}
 use mathlib.Core.List.{List, [], _∷_}
@@ -64,7 +64,8 @@ abbrev pub validFor : Family → Part → Device → Bool
 validFor Mram p d = mramValid p d
 validFor Psram p d = psramValid d
 
-unfoldable pub validOf : Device → Bool
-validOf d =
+-- all of them are: what the state check asks of every field but the open transaction
+unfoldable pub inRange : Device → Bool
+inRange d =
     let p = partOf (d .make .part) in
     validFor (familyOf p) p d

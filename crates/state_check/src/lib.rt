@@ -5,7 +5,7 @@
 ghost use mathlib.Core.Path.{_≡_};
 ghost use lib.ListN.{drop};
 ghost use Rattle.state_check.specs.Values.{statusAllowed, cr3Allowed, cr4Allowed, configurationsAllowed, modeRegisterAllowed, reservedOf};
-ghost use Rattle.state_check.specs.States.{modeAllowed, zeros, mramRegisters, psramRegisters, mramVolatile, psramVolatile, mramIdentity, psramIdentity, mramValid, psramValid, validOf};
+ghost use Rattle.state_check.specs.States.{modeAllowed, zeros, mramRegisters, psramRegisters, mramVolatile, psramVolatile, mramIdentity, psramIdentity, mramValid, psramValid, inRange};
 use kinds::Register;
 use parts::Family;
 use parts::Part;
@@ -90,7 +90,7 @@ pub fn reserved(part: Part, r: Register, value: [u8; 8]) -> bool
 }
 
 // Whether all of the eight bytes from `from` on are 0.
-fn all_zero(a: [u8; 8], from: usize) -> bool
+pub fn all_zero(a: [u8; 8], from: usize) -> bool
     ensures { λ r. ⌜ r ≡ zeros (drop from a) ⌝ }
 {
     let mut i = from;
@@ -212,9 +212,9 @@ fn psram_valid(d: Device) -> bool
     psram_identity(identity)
 }
 
-// The state check: whether every field of the record is in the range that its family and part give it.
-pub fn valid(d: Device) -> bool
-    ensures { λ r. ⌜ r ≡ validOf d ⌝ }
+// Whether every field of the record, but the open transaction, is in the range that its family and part give it.
+pub fn in_range(d: Device) -> bool
+    ensures { λ r. ⌜ r ≡ inRange d ⌝ }
 {
     let part = Part::of(d.make.part);
     match part.family() {

@@ -13,4 +13,4 @@ mapped-byte-spec =
     -- returns
     (λ c. rw (c .before .before .m .given .1, c .shown-byte .ensures))
     -- returns-2
-    (λ c. search needs))
+    (λ c. rw (c .enum-told .given .1)))

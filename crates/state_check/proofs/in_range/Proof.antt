@@ -1,15 +1,15 @@
--- `state_check::valid` meets its contract: the family decides.
+-- `state_check::in_range` meets its contract: the family decides.
 -- Assumes nothing.
 use borrow.Author.Needs.{needs}
-use Rattle.state_check.proofs.valid.Statement.{statement}
-use Rattle.state_check.proofs.valid.Tie as tie
+use Rattle.state_check.proofs.in_range.Statement.{statement}
+use Rattle.state_check.proofs.in_range.Tie as tie
 use mathlib.Core.Path.{sym, ap, _∙_}
 use Rattle.parts.specs.Parts.{familyOf}
-use Rattle.state_check.specs.States.{validOf}
+use Rattle.state_check.specs.States.{inRange}
 
-pub valid-spec : {M : Type 1} → statement M
-unfolding validOf
-valid-spec =
+pub in-range-spec : {M : Type 1} → statement M
+unfolding inRange
+in-range-spec =
     tie.close
     (tie.spec
     -- of-requires, family-requires, enum-told, mram-valid-requires, enum-told-2, psram-valid-requires
