@@ -25,7 +25,7 @@ use Rattle.paper.specs.Storing.{Lent}
 use Rattle.paper.specs.Driving.{drivenAt, along}
 use Rattle.paper.specs.Answers.{Facts, judge}
 use Rattle.paper.specs.Transaction.{World, sentBytes, bodyIn, factsOf, storedBy, undriven, around, outputOf, over, clockedOf}
-use Rattle.contract_words.specs.Words.{Taken, nothingTaken, begun}
+use Rattle.contract_words.specs.Words.{Taken, Held, nothingTaken, begun}
 use Rattle.machine_phases.specs.Machine.{termsOf, holds, runOf, outsOf}
 use Rattle.machine_end.specs.Finish.{factsIn, outcomeOf, finishOf}
 use Rattle.machine_bridge.specs.Stage.{Seen, seen}
@@ -54,7 +54,7 @@ reading d l xs =
     let hold = holds (termsOf d) (p .kind) in
     let see : Taken → Seen = λ t. record { facts = record { kind = p .kind; address = p .address; tally = record { counts = countsIn p; value = t .value } }; lent = t .lent; out = around p (drivenBy d l p) } in
     command-law d l xs
-    ∙ ap see (taken-all b (wiresFor s (p .kind)) hold a (p .dataPart) (nothingTaken l) ∙ held-all b a hold (sentBytes s p) (nothingTaken l))
+    ∙ ap see (ap (λ (h : Held). h .taken) (taken-all b (wiresFor s (p .kind)) hold a (p .dataPart) (nothingTaken l)) ∙ held-all b a hold (sentBytes s p) (nothingTaken l))
 
 -- of whatever samples: its kind, its address and its tally are theirs
 pub facts-read : (d : Device) (l : Lent) (xs : List ℕ) → factsIn (runOf d (begun l) xs .progress) ≡ factsOf (settingOf d) (readingOf (settingOf d) xs)

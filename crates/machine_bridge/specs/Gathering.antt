@@ -7,6 +7,7 @@ use native.Mathlib.Omega.{arith}
 use mathlib.Core.Bool.{true, false}
 use mathlib.Core.List.{List, [], _∷_, _++_}
 use lib.ListN.{length, take, drop, length-take, length-drop, take-append-drop}
+use lib.Seq.{drop-drop}
 use borrow.Author.Tests.{eq-eqb, ne-eqb}
 use Rattle.units.specs.declared.Clocks.{Clocks}
 use Rattle.units.specs.declared.Wires.{Wires}
@@ -75,9 +76,9 @@ module _ (w : Wires) (f : Take) where
 
   -- q whole bytes and an unfinished one
   several : (q : ℕ) (xs : List ℕ) (j : ℕ) (t : Taken) → q * perByte w ≤ length xs → length xs < q * perByte w + perByte w
-      → from j 0 0 t xs .taken ≡ takeAll f j (bytesIn w q xs) t
+      → from j 0 0 t xs ≡ record { number = gather w (drop (q * perByte w) xs); taken = takeAll f j (bytesIn w q xs) t }
   unfolding takeAll bytesIn
-  several zero xs j t h g = let z = zero-mul (perByte w) in ap (λ (k : Held). k .taken) (begun xs j 0 0 t (omega arith))
+  several zero xs j t h g = let z = zero-mul (perByte w) in begun xs j 0 0 t (omega arith) ∙ rw z
   several (suc q) xs j t h g =
       let n = perByte w in
       let e = suc-mul q n in
@@ -85,15 +86,20 @@ module _ (w : Wires) (f : Take) where
       let l = length-drop n xs in
       let b = gather w (take n xs) in
       let m : clockOf w j 0 + length (take n xs) ≡ clockOf w (j + 1) 0 = omega (arith, suc-mul j n) in
-      ap (λ (ys : List ℕ). from j 0 0 t ys .taken) (sym (take-append-drop n xs))
-      ∙ ap (λ (r : Held). r .taken) (carried-append (held w f) (take n xs) (drop n xs) (clockOf w j 0) (record { number = 0; taken = t }))
-      ∙ ap (λ (r : Held). carried (held w f) (clockOf w j 0 + length (take n xs)) r (drop n xs) .taken) (one (take n xs) j t k)
-      ∙ ap (λ (c : ℕ). carried (held w f) c (record { number = 0; taken = f (bytes j) b t }) (drop n xs) .taken) m
+      let i : n + q * n ≡ suc q * n = omega arith in
+      let r : drop (q * n) (drop n xs) ≡ drop (suc q * n) xs = drop-drop (q * n) n xs ∙ ap (λ (k : ℕ). drop k xs) i in
+      ap (λ (ys : List ℕ). from j 0 0 t ys) (sym (take-append-drop n xs))
+      ∙ carried-append (held w f) (take n xs) (drop n xs) (clockOf w j 0) (record { number = 0; taken = t })
+      ∙ ap (λ (r : Held). carried (held w f) (clockOf w j 0 + length (take n xs)) r (drop n xs)) (one (take n xs) j t k)
+      ∙ ap (λ (c : ℕ). carried (held w f) c (record { number = 0; taken = f (bytes j) b t }) (drop n xs)) m
       ∙ several q (drop n xs) (j + 1) (f (bytes j) b t) (omega arith) (omega arith)
+      ∙ ap (λ (ys : List ℕ). record { number = gather w ys; taken = takeAll f (j + 1) (bytesIn w q (drop n xs)) (f (bytes j) b t) }) r
 
-  -- THE BYTES: data clocks leave what their whole bytes leave
-  pub whole-bytes : (xs : List ℕ) (t : Taken) → carried (held w f) 0 (record { number = 0; taken = t }) xs .taken ≡ takeAll f 0 (dataBytes w xs) t
+  -- THE BYTES: data clocks leave what their whole bytes leave, and the number of the clocks past them
+  pub whole-bytes : (xs : List ℕ) (t : Taken)
+      → carried (held w f) 0 (record { number = 0; taken = t }) xs
+      ≡ record { number = gather w (drop (length xs / perByte w * perByte w) xs); taken = takeAll f 0 (dataBytes w xs) t }
   unfolding dataBytes
   whole-bytes xs t =
-      ap (λ (c : ℕ). carried (held w f) c (record { number = 0; taken = t }) xs .taken) (omega (arith, zero-mul (perByte w)))
+      ap (λ (c : ℕ). carried (held w f) c (record { number = 0; taken = t }) xs) (omega (arith, zero-mul (perByte w)))
       ∙ several (length xs / perByte w) xs 0 t (div-mul-le-self (length xs) (perByte w)) (lt-div-mul-add (perByte-pos w))

@@ -42,7 +42,7 @@ use Rattle.paper.specs.Transaction.{undriven}
 use Rattle.paper.specs.Laws.{along-zero}
 use Rattle.contract_words.specs.Words.{Held, Run, begun}
 use Rattle.machine_phases.specs.Machine.{termsOf, fullAt, toData, toWait, toAddress, commandStep, addressStep, waitStep, holds, dataHeld, dataStep, stepOf, driveOf, runOf, outsOf}
-use Rattle.machine_bridge.specs.Stage.{Seen, seen, behind, carried, stage, cut-first, cut-body}
+use Rattle.machine_bridge.specs.Stage.{Seen, seen, behind, carried, place, stage, cut-first, cut-body}
 use Rattle.machine_bridge.specs.Taking.{tickFor}
 
 abbrev none : Clocks
@@ -54,23 +54,23 @@ pub record Point : Type 0 where
   pub lent : Lent
 
 -- the point with the clocks of a phase, and what the phase has told
-abbrev counts : Point → Counts
+abbrev pub counts : Point → Counts
 counts q = q .facts .tally .counts
 
-abbrev point : Kind → ℕ → Counts → Point → Point
+abbrev pub point : Kind → ℕ → Counts → Point → Point
 point k a c q = record { facts = record { kind = k; address = a; tally = record { counts = c; value = q .facts .tally .value } }; lent = q .lent }
 
-abbrev named : Kind → Clocks → Point → Point
+abbrev pub named : Kind → Clocks → Point → Point
 named k c q = point k 0 (counted c none none none none) q
 
-abbrev placed : ℕ → Clocks → Point → Point
+abbrev pub placed : ℕ → Clocks → Point → Point
 placed a c q = point (q .facts .kind) a (counted (counts q .command) c none none none) q
 
-abbrev waited : Clocks → Point → Point
+abbrev pub waited : Clocks → Point → Point
 waited c q = point (q .facts .kind) (q .facts .address) (counted (counts q .command) (counts q .address) c none none) q
 
 -- the machine, with a progress made from the kind, the address and the tally of a point
-abbrev entering : (Kind → ℕ → Tally → Progress) → Point → Run
+abbrev pub entering : (Kind → ℕ → Tally → Progress) → Point → Run
 entering f q = record { progress = f (q .facts .kind) (q .facts .address) (q .facts .tally); lent = q .lent }
 
 -- nothing more comes
@@ -204,52 +204,111 @@ drives-same AnyRead d q c h x u = refl
 drives-same (FixedWrite m) d q c h x u = refl
 drives-same AnyWrite d q c h x u = refl
 
-data-law : (d : Device) (q : Point) (xs : List ℕ) → seen d (entering (toData (settingOf d)) (waited (counts q .wait) q)) xs ≡ dataOn d q xs
-unfolding toData dataOn dataStep dataHeld stepOf driveOf
-data-law d q xs =
-    let k = q .facts .kind in
-    let a = q .facts .address in
-    let b = body d q in
-    let w = wires d q in
-    let t : Clocks → Held → Tally = λ c h. record { counts = counted (counts q .command) (counts q .address) (counts q .wait) c none; value = h .taken .value } in
-    let rest : Clocks → Held → Progress = λ c h. entered Rest k a (t c h) in
-    let go : Clocks → Held → Progress = λ c h. record { phase = Data; kind = k; address = a; number = h .number; tally = t c h } in
-    let same = drivenAt b d k a (q .lent) in
-    ap (λ (r : Run). seen d r xs) (chosen (fullAt b w none) (rest none (starting d q)) (go none (starting d q)) (q .lent))
-    ∙ stage d (fullAt b w)
-    (λ c h. record { progress = rest c h; lent = h .taken .lent })
-    (λ c h. record { progress = go c h; lent = h .taken .lent })
-    (tick d q)
-    same
-    (λ h. (u : Clocks) → drivenAt b d k a (h .taken .lent) u ≡ same u)
-    (λ n h x. chosen (fullAt b w (clocks (n + 1))) (rest (clocks (n + 1)) (tick d q (clocks n) h x)) (go (clocks (n + 1)) (tick d q (clocks n) h x)) (tick d q (clocks n) h x .taken .lent))
-    (λ n h ok. ok (clocks n))
-    (λ n h x ok u. drives-same b d q (clocks n) h x u ∙ ok u)
-    (λ c h ys. past d q c h (many ys) (undriven ys))
-    (λ c h ys e. rest-law d q c h 0 ys ∙ rw zero-add)
-    (λ c h e. refl)
-    (cut-body b w xs)
-    (starting d q)
-    (λ u. refl)
+-- what is known while it goes on: a read drives the same
+abbrev Steady : Device → Point → Held → Type 0
+Steady d q h = (u : Clocks) → drivenAt (body d q) d (q .facts .kind) (q .facts .address) (h .taken .lent) u ≡ drivenAt (body d q) d (q .facts .kind) (q .facts .address) (q .lent) u
+
+module _ (d : Device) (q : Point) where
+  abbrev dataTally : Clocks → Held → Tally
+  dataTally c h = record { counts = counted (counts q .command) (counts q .address) (counts q .wait) c none; value = h .taken .value }
+
+  -- the machine past the data, and in it
+  abbrev pub dataPast : Clocks → Held → Run
+  dataPast c h = record { progress = entered Rest (q .facts .kind) (q .facts .address) (dataTally c h); lent = h .taken .lent }
+
+  abbrev pub dataGo : Clocks → Held → Run
+  dataGo c h =
+      record {
+        progress = record { phase = Data; kind = q .facts .kind; address = q .facts .address; number = h .number; tally = dataTally c h };
+        lent = h .taken .lent;
+      }
+
+  data-enters : entering (toData (settingOf d)) (waited (counts q .wait) q) ≡ cond (fullAt (body d q) (wires d q) none) (dataPast none (starting d q)) (dataGo none (starting d q))
+  unfolding toData
+  data-enters = chosen (fullAt (body d q) (wires d q) none) (dataPast none (starting d q) .progress) (dataGo none (starting d q) .progress) (q .lent)
+
+  data-moves : (n : ℕ) (h : Held) (x : ℕ)
+      → let t = clocks (n + 1) in let g = tick d q (clocks n) h x in
+      stepOf (termsOf d) (dataGo (clocks n) h) x ≡ cond (fullAt (body d q) (wires d q) t) (dataPast t g) (dataGo t g)
+  unfolding dataStep dataHeld stepOf
+  data-moves n h x =
+      let t = clocks (n + 1) in
+      let g = tick d q (clocks n) h x in
+      chosen (fullAt (body d q) (wires d q) t) (dataPast t g .progress) (dataGo t g .progress) (g .taken .lent)
+
+  data-drives : (n : ℕ) (h : Held) → Steady d q h → driveOf d (dataGo (clocks n) h) ≡ drivenAt (body d q) d (q .facts .kind) (q .facts .address) (q .lent) (clocks n)
+  unfolding driveOf
+  data-drives n h ok = ok (clocks n)
+
+  data-keeps : (n : ℕ) (h : Held) (x : ℕ) → Steady d q h → Steady d q (tick d q (clocks n) h x)
+  data-keeps n h x ok u = drives-same (body d q) d q (clocks n) h x u ∙ ok u
+
+  data-law : (xs : List ℕ) → seen d (entering (toData (settingOf d)) (waited (counts q .wait) q)) xs ≡ dataOn d q xs
+  unfolding dataOn
+  data-law xs =
+      ap (λ (r : Run). seen d r xs) data-enters
+      ∙ stage d (fullAt (body d q) (wires d q)) dataPast dataGo (tick d q) (drivenAt (body d q) d (q .facts .kind) (q .facts .address) (q .lent)) (Steady d q)
+      data-moves data-drives data-keeps
+      (λ c h ys. past d q c h (many ys) (undriven ys))
+      (λ c h ys e. rest-law d q c h 0 ys ∙ rw zero-add)
+      (λ c h e. refl)
+      (cut-body (body d q) (wires d q) xs)
+      (starting d q)
+      (λ u. refl)
+
+  pub data-place : (xs : List ℕ)
+      → let b = body d q in let w = wires d q in
+      let c = many (dataPart b w xs) in let h = carried (tick d q) 0 (starting d q) (dataPart b w xs) in
+      runOf d (entering (toData (settingOf d)) (waited (counts q .wait) q)) xs ≡ cond (fullAt b w c) (runOf d (dataPast c h) (restPart b w xs)) (dataGo c h)
+  data-place xs =
+      ap (λ (r : Run). runOf d r xs) data-enters
+      ∙ place d (fullAt (body d q) (wires d q)) dataPast dataGo (tick d q) (drivenAt (body d q) d (q .facts .kind) (q .facts .address) (q .lent)) (Steady d q)
+      data-moves data-drives data-keeps
+      (cut-body (body d q) (wires d q) xs)
+      (starting d q)
+      (λ u. refl)
 
 -- ---- the phases before it, in which nothing is driven
-wait-law : (d : Device) (q : Point) (xs : List ℕ) → seen d (entering (toWait (settingOf d)) (waited none q)) xs ≡ waitOn d q xs
-unfolding toWait waitOn waitStep stepOf driveOf
-wait-law d q xs =
-    let s = settingOf d in
-    let n = waitClocks s (q .facts .kind) (q .facts .address) in
-    let past : Clocks → Run = λ c. entering (toData s) (waited c q) in
-    let go : Clocks → Run = λ c. entering (entered Wait) (waited c q) in
-    ap (λ (r : Run). seen d r xs) (chosen (atMost n none) (past none .progress) (go none .progress) (q .lent))
-    ∙ stage d {S = Unit {0}} (atMost n) (λ c u. past c) (λ c u. go c) (λ c u x. u) (λ c. 0) (λ u. Unit {0})
-    (λ m u x. chosen (atMost n (clocks (m + 1))) (past (clocks (m + 1)) .progress) (go (clocks (m + 1)) .progress) (q .lent))
-    (λ m u ok. refl)
-    (λ m u x ok. ok)
-    (λ c u ys. dataOn d (waited c q) ys)
-    (λ c u ys e. data-law d (waited c q) ys)
-    (λ c u e. sym (data-on-nil d (waited c q)))
-    (cut-first n xs) tt tt
-    ∙ rw (along-zero (first n xs) 0)
+module _ (d : Device) (q : Point) where
+  abbrev waits : Clocks
+  waits = waitClocks (settingOf d) (q .facts .kind) (q .facts .address)
+
+  abbrev pub waitPast : Clocks → Unit {0} → Run
+  waitPast c u = entering (toData (settingOf d)) (waited c q)
+
+  abbrev pub waitGo : Clocks → Unit {0} → Run
+  waitGo c u = entering (entered Wait) (waited c q)
+
+  wait-enters : entering (toWait (settingOf d)) (waited none q) ≡ cond (atMost waits none) (waitPast none tt) (waitGo none tt)
+  unfolding toWait
+  wait-enters = chosen (atMost waits none) (waitPast none tt .progress) (waitGo none tt .progress) (q .lent)
+
+  wait-moves : (m : ℕ) (u : Unit {0}) (x : ℕ)
+      → let t = clocks (m + 1) in stepOf (termsOf d) (waitGo (clocks m) u) x ≡ cond (atMost waits t) (waitPast t u) (waitGo t u)
+  unfolding waitStep stepOf
+  wait-moves m u x = let t = clocks (m + 1) in chosen (atMost waits t) (waitPast t u .progress) (waitGo t u .progress) (q .lent)
+
+  wait-drives : (m : ℕ) (u : Unit {0}) → Unit {0} → driveOf d (waitGo (clocks m) u) ≡ 0
+  unfolding driveOf
+  wait-drives m u ok = refl
+
+  wait-law : (xs : List ℕ) → seen d (entering (toWait (settingOf d)) (waited none q)) xs ≡ waitOn d q xs
+  unfolding waitOn
+  wait-law xs =
+      ap (λ (r : Run). seen d r xs) wait-enters
+      ∙ stage d (atMost waits) waitPast waitGo (λ c u x. u) (λ c. 0) (λ u. Unit {0}) wait-moves wait-drives (λ m u x ok. ok)
+      (λ c u ys. dataOn d (waited c q) ys)
+      (λ c u ys e. data-law d (waited c q) ys)
+      (λ c u e. sym (data-on-nil d (waited c q)))
+      (cut-first waits xs) tt tt
+      ∙ rw (along-zero (first waits xs) 0)
+
+  pub wait-place : (xs : List ℕ)
+      → let n = waitClocks (settingOf d) (q .facts .kind) (q .facts .address) in let c = many (first n xs) in
+      runOf d (entering (toWait (settingOf d)) (waited none q)) xs ≡ cond (atMost n c) (runOf d (entering (toData (settingOf d)) (waited c q)) (after n xs)) (entering (entered Wait) (waited c q))
+  wait-place xs =
+      ap (λ (r : Run). runOf d r xs) wait-enters
+      ∙ place d (atMost waits) waitPast waitGo (λ c u x. u) (λ c. 0) (λ u. Unit {0}) wait-moves wait-drives (λ m u x ok. ok) (cut-first waits xs) tt tt
 
 -- the number that is carried along is the one gathered
 carried-gather : (w : Wires) (xs : List ℕ) (t number : ℕ) → carried (λ c v x. shiftOf w v x) t number xs ≡ gatherFrom w number xs
@@ -257,25 +316,55 @@ unfolding carried gatherFrom
 carried-gather w [] t number = refl
 carried-gather w (x ∷ xs) t number = carried-gather w xs (t + 1) (shiftOf w number x)
 
-address-law : (d : Device) (q : Point) (xs : List ℕ) → seen d (entering (λ k a t. toAddress (settingOf d) k t) (placed 0 none q)) xs ≡ addressOn d q xs
-unfolding toAddress addressOn addressStep addressRead stepOf driveOf
-address-law d q xs =
-    let s = settingOf d in
-    let k = q .facts .kind in
-    let n = addressClocks s k in
-    let w = wiresFor s k in
-    let past : Clocks → ℕ → Run = λ c v. entering (toWait s) (placed v c q) in
-    let go : Clocks → ℕ → Run = λ c v. record { progress = onward v (placed 0 c q .facts .tally) (entered Address k 0 (placed 0 c q .facts .tally)); lent = q .lent } in
-    ap (λ (r : Run). seen d r xs) (chosen (atMost n none) (past none 0 .progress) (go none 0 .progress) (q .lent))
-    ∙ stage d {S = ℕ} (atMost n) past go (λ c v x. shiftOf w v x) (λ c. 0) (λ v. Unit {0})
-    (λ m v x. chosen (atMost n (clocks (m + 1))) (past (clocks (m + 1)) (shiftOf w v x) .progress) (go (clocks (m + 1)) (shiftOf w v x) .progress) (q .lent))
-    (λ m v ok. refl)
-    (λ m v x ok. ok)
-    (λ c v ys. waitOn d (placed (cond (atMost n c) v 0) c q) ys)
-    (λ c v ys e. rw e (wait-law d (placed v c q) ys))
-    (λ c v e. rw e (sym (wait-on-nil d (placed 0 c q))))
-    (cut-first n xs) 0 tt
-    ∙ rw (along-zero (first n xs) 0, carried-gather w (first n xs) 0 0)
+module _ (d : Device) (q : Point) where
+  abbrev addressed : Clocks
+  addressed = addressClocks (settingOf d) (q .facts .kind)
+
+  abbrev shifting : Clocks → ℕ → ℕ → ℕ
+  shifting c v x = shiftOf (wires d q) v x
+
+  abbrev pub addressPast : Clocks → ℕ → Run
+  addressPast c v = entering (toWait (settingOf d)) (placed v c q)
+
+  abbrev pub addressGo : Clocks → ℕ → Run
+  addressGo c v =
+      record { progress = onward v (placed 0 c q .facts .tally) (entered Address (q .facts .kind) 0 (placed 0 c q .facts .tally)); lent = q .lent }
+
+  address-enters : entering (λ k a t. toAddress (settingOf d) k t) (placed 0 none q) ≡ cond (atMost addressed none) (addressPast none 0) (addressGo none 0)
+  unfolding toAddress
+  address-enters = chosen (atMost addressed none) (addressPast none 0 .progress) (addressGo none 0 .progress) (q .lent)
+
+  address-moves : (m v x : ℕ)
+      → let t = clocks (m + 1) in let u = shifting (clocks m) v x in
+      stepOf (termsOf d) (addressGo (clocks m) v) x ≡ cond (atMost addressed t) (addressPast t u) (addressGo t u)
+  unfolding addressStep stepOf
+  address-moves m v x =
+      let t = clocks (m + 1) in
+      let u = shifting (clocks m) v x in
+      chosen (atMost addressed t) (addressPast t u .progress) (addressGo t u .progress) (q .lent)
+
+  address-drives : (m v : ℕ) → Unit {0} → driveOf d (addressGo (clocks m) v) ≡ 0
+  unfolding driveOf
+  address-drives m v ok = refl
+
+  address-law : (xs : List ℕ) → seen d (entering (λ k a t. toAddress (settingOf d) k t) (placed 0 none q)) xs ≡ addressOn d q xs
+  unfolding addressOn addressRead
+  address-law xs =
+      ap (λ (r : Run). seen d r xs) address-enters
+      ∙ stage d (atMost addressed) addressPast addressGo shifting (λ c. 0) (λ v. Unit {0}) address-moves address-drives (λ m v x ok. ok)
+      (λ c v ys. waitOn d (placed (cond (atMost addressed c) v 0) c q) ys)
+      (λ c v ys e. rw e (wait-law d (placed v c q) ys))
+      (λ c v e. rw e (sym (wait-on-nil d (placed 0 c q))))
+      (cut-first addressed xs) 0 tt
+      ∙ rw (along-zero (first addressed xs) 0, carried-gather (wires d q) (first addressed xs) 0 0)
+
+  pub address-place : (xs : List ℕ)
+      → let n = addressClocks (settingOf d) (q .facts .kind) in let c = many (first n xs) in let v = gather (wires d q) (first n xs) in
+      runOf d (entering (λ k a t. toAddress (settingOf d) k t) (placed 0 none q)) xs ≡ cond (atMost n c) (runOf d (addressPast c v) (after n xs)) (addressGo c v)
+  address-place xs =
+      ap (λ (r : Run). runOf d r xs) address-enters
+      ∙ place d (atMost addressed) addressPast addressGo shifting (λ c. 0) (λ v. Unit {0}) address-moves address-drives (λ m v x ok. ok) (cut-first addressed xs) 0 tt
+      ∙ rw (carried-gather (wires d q) (first addressed xs) 0 0)
 
 -- a command has a clock
 some-command : (s : Setting) → atMost (commandClocks s) none ≡ false
@@ -291,25 +380,55 @@ command-fits s xs =
 abbrev pub outset : Lent → Point
 outset l = record { facts = record { kind = Unknown; address = 0; tally = nothingYet }; lent = l }
 
--- FROM THE FIRST CLOCK ON
-pub command-law : (d : Device) (l : Lent) (xs : List ℕ) → seen d (begun l) xs ≡ commandOn d (outset l) xs
-unfolding commandOn commandStep kindRead stepOf driveOf
-command-law d l xs =
-    let s = settingOf d in
-    let n = commandClocks s in
-    let w = s .wires in
-    let q = outset l in
-    let kind : ℕ → Kind = λ v. kindOf (familyOf (s .part)) w (v % 256) in
-    let past : Clocks → ℕ → Run = λ c v. entering (λ k a t. toAddress s k t) (named (kind v) c q) in
-    let go : Clocks → ℕ → Run = λ c v. record { progress = onward v (named Unknown c q .facts .tally) beginOf; lent = l } in
-    let enter : cond (atMost n none) (past none 0) (go none 0) ≡ begun l = rw (some-command s) in
-    ap (λ (r : Run). seen d r xs) (sym enter)
-    ∙ stage d {S = ℕ} (atMost n) past go (λ c v x. shiftOf w v x) (λ c. 0) (λ v. Unit {0})
-    (λ m v x. chosen (atMost n (clocks (m + 1))) (past (clocks (m + 1)) (shiftOf w v x) .progress) (go (clocks (m + 1)) (shiftOf w v x) .progress) l)
-    (λ m v ok. refl)
-    (λ m v x ok. ok)
-    (λ c v ys. addressOn d (named (cond (atMost n c) (kind v) Unknown) c q) ys)
-    (λ c v ys e. rw e (address-law d (named (kind v) c q) ys))
-    (λ c v e. rw e (sym (address-on-nil d (named Unknown c q))))
-    (cut-first n xs) 0 tt
-    ∙ rw (along-zero (first n xs) 0, carried-gather w (first n xs) 0 0, command-fits s xs)
+module _ (d : Device) (l : Lent) where
+  abbrev commands : Clocks
+  commands = commandClocks (settingOf d)
+
+  abbrev spells : Clocks → ℕ → ℕ → ℕ
+  spells c v x = shiftOf (settingOf d .wires) v x
+
+  abbrev pub kindOn : ℕ → Kind
+  kindOn v = kindOf (familyOf (settingOf d .part)) (settingOf d .wires) (v % 256)
+
+  abbrev pub commandPast : Clocks → ℕ → Run
+  commandPast c v = entering (λ k a t. toAddress (settingOf d) k t) (named (kindOn v) c (outset l))
+
+  abbrev pub commandGo : Clocks → ℕ → Run
+  commandGo c v = record { progress = onward v (named Unknown c (outset l) .facts .tally) beginOf; lent = l }
+
+  command-enters : begun l ≡ cond (atMost commands none) (commandPast none 0) (commandGo none 0)
+  command-enters = rw (some-command (settingOf d))
+
+  command-moves : (m v x : ℕ)
+      → let t = clocks (m + 1) in let u = spells (clocks m) v x in
+      stepOf (termsOf d) (commandGo (clocks m) v) x ≡ cond (atMost commands t) (commandPast t u) (commandGo t u)
+  unfolding commandStep stepOf
+  command-moves m v x =
+      let t = clocks (m + 1) in
+      let u = spells (clocks m) v x in
+      chosen (atMost commands t) (commandPast t u .progress) (commandGo t u .progress) l
+
+  command-drives : (m v : ℕ) → Unit {0} → driveOf d (commandGo (clocks m) v) ≡ 0
+  unfolding driveOf
+  command-drives m v ok = refl
+
+  -- FROM THE FIRST CLOCK ON
+  pub command-law : (xs : List ℕ) → seen d (begun l) xs ≡ commandOn d (outset l) xs
+  unfolding commandOn kindRead
+  command-law xs =
+      let q = outset l in
+      ap (λ (r : Run). seen d r xs) command-enters
+      ∙ stage d (atMost commands) commandPast commandGo spells (λ c. 0) (λ v. Unit {0}) command-moves command-drives (λ m v x ok. ok)
+      (λ c v ys. addressOn d (named (cond (atMost commands c) (kindOn v) Unknown) c q) ys)
+      (λ c v ys e. rw e (address-law d (named (kindOn v) c q) ys))
+      (λ c v e. rw e (sym (address-on-nil d (named Unknown c q))))
+      (cut-first commands xs) 0 tt
+      ∙ rw (along-zero (first commands xs) 0, carried-gather (settingOf d .wires) (first commands xs) 0 0, command-fits (settingOf d) xs)
+
+  pub command-place : (xs : List ℕ)
+      → let n = commandClocks (settingOf d) in let c = many (first n xs) in let v = gather (settingOf d .wires) (first n xs) in
+      runOf d (begun l) xs ≡ cond (atMost n c) (runOf d (commandPast c v) (after n xs)) (commandGo c v)
+  command-place xs =
+      ap (λ (r : Run). runOf d r xs) command-enters
+      ∙ place d (atMost commands) commandPast commandGo spells (λ c. 0) (λ v. Unit {0}) command-moves command-drives (λ m v x ok. ok) (cut-first commands xs) 0 tt
+      ∙ rw (carried-gather (settingOf d .wires) (first commands xs) 0 0)

@@ -81,6 +81,23 @@ module _
         rw (e, drives t s ok) (ap (λ (r : Run). out (clocks t) ∷ outsOf d r xs) (moves t s x) ∙ ap (λ (l : List ℕ). out (clocks t) ∷ l) (ih .1)),
       )
 
+  -- THE PLACE: after any clocks the machine stands in the phase, or has gone on behind it
+  pub place : {zs xs ys : List ℕ} → Cut full zs xs ys → (s : S) → Ok s
+      → runOf d (enter 0 s) zs ≡ cond (full (many xs)) (runOf d (done (many xs) (carried tick 0 s xs)) ys) (go (many xs) (carried tick 0 s xs))
+  unfolding runOf
+  place {zs} {xs} {ys} c s ok =
+      let s′ = carried tick 0 s xs in
+      ap (runOf d (enter 0 s)) (sym (c .whole))
+      ∙ run-append d (enter 0 s) xs ys
+      ∙ ap (λ (r : Run). runOf d r ys) (stays xs 0 s ok (λ i l h. c .busy i (omega arith)) .0)
+      ∙ ap (λ (m : ℕ). runOf d (enter m s′) ys) (zero-add (length xs))
+      ∙ by s′ (full (many xs)) refl (c .ends)
+    where
+      by : (s′ : S) (b : Bool) → full (many xs) ≡ b → (full (many xs) ≡ false → ys ≡ [])
+          → runOf d (enter (length xs) s′) ys ≡ cond (full (many xs)) (runOf d (done (many xs) s′) ys) (go (many xs) s′)
+      by s′ true e h = rw e
+      by s′ false e h = rw (e, h e)
+
   -- `next` is what is seen from the end of the phase on, full or not
   module _
       (next : Clocks → S → List ℕ → Seen)

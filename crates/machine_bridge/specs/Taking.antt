@@ -1,16 +1,17 @@
 -- What the data clocks leave, by what the data is: a write its whole bytes, held back or not, a read nothing.
 -- Assumes nothing.
 use mathlib.Core.Path.{_≡_, refl, sym, ap, _∙_}
-use Prim.Native.Nat.{ℕ, _+_, _<_}
+use Prim.Native.Nat.{ℕ, _+_, _*_, _/_, _<_}
 use native.Mathlib.Omega.{arith}
 use mathlib.Core.Bool.{Bool, true, false, cond}
 use mathlib.Core.List.{List, [], _∷_}
-use lib.ListN.{length}
+use lib.ListN.{length, drop}
 use borrow.Author.Tests.{eqb-true}
 use Rattle.basis.specs.Counting.{howMany, each-passes}
 use Rattle.units.specs.declared.Clocks.{Clocks}
 use Rattle.units.specs.declared.Wires.{Wires}
-use Rattle.units.specs.Units.{bytes}
+use Rattle.units.specs.Units.{bytes, perByte}
+use Rattle.wires.specs.Bits.{gather}
 use Rattle.commands.specs.declared.plans.Body.{Body}
 use Rattle.commands.specs.Plans.{writes}
 use Rattle.record.specs.declared.devices.Aim.{Aim}
@@ -51,17 +52,19 @@ unfolding carried
 idle [] t h = refl
 idle (x ∷ xs) t h = idle xs (t + 1) h
 
--- THE DATA: clock by clock comes to byte by byte
+-- THE DATA: clock by clock comes to byte by byte, and a write has the number of the byte that is not whole
 pub taken-all : (b : Body) (w : Wires) (hold : Bool) (a : Aim) (xs : List ℕ) (t : Taken)
-    → carried (tickFor b w hold a) 0 (record { number = 0; taken = t }) xs .taken ≡ takeAll (byteFor hold b a) 0 (dataBytes w xs) t
+    → carried (tickFor b w hold a) 0 (record { number = 0; taken = t }) xs
+    ≡ record { number = cond (writes b) (gather w (drop (length xs / perByte w * perByte w) xs)) 0; taken = takeAll (byteFor hold b a) 0 (dataBytes w xs) t }
 taken-all b w hold a xs t = by (writes b) refl
   where
     by : (c : Bool) → writes b ≡ c
-        → carried (λ u h x. cond c (held w (byteFor hold b a) u h x) h) 0 (record { number = 0; taken = t }) xs .taken ≡ takeAll (byteFor hold b a) 0 (dataBytes w xs) t
+        → carried (λ u h x. cond c (held w (byteFor hold b a) u h x) h) 0 (record { number = 0; taken = t }) xs
+        ≡ record { number = cond c (gather w (drop (length xs / perByte w * perByte w) xs)) 0; taken = takeAll (byteFor hold b a) 0 (dataBytes w xs) t }
     by true e = whole-bytes w (byteFor hold b a) xs t
     by false e =
-        ap (λ (h : Held). h .taken) (idle xs 0 (record { number = 0; taken = t }))
-        ∙ sym (still (byteFor hold b a) (λ i x u. sym (kept hold a i x u b e)) (dataBytes w xs) 0 t)
+        idle xs 0 (record { number = 0; taken = t })
+        ∙ ap (λ (u : Taken). record { number = 0; taken = u }) (sym (still (byteFor hold b a) (λ i x u. sym (kept hold a i x u b e)) (dataBytes w xs) 0 t))
 
 -- ---- a burst into protected places only stores nothing
 module _ (a : Aim) where

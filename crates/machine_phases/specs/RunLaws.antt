@@ -2,6 +2,7 @@
 -- Assumes nothing.
 use mathlib.Core.Path.{_≡_, refl, ap, _∙_}
 use Prim.Native.Nat.{ℕ, suc, _+_, _%_}
+use native.Mathlib.Nat.{add-zero}
 use native.Mathlib.Omega.{arith}
 use mathlib.Core.Bool.{Bool, true, false, cond}
 use mathlib.Core.List.{List, [], _∷_, _++_}
@@ -116,3 +117,12 @@ module _ (h : Terms) (r : Run) (x : ℕ) where
       by Wait = wait-one
       by Data = data-one
       by Rest = record { is = omega arith }
+
+-- every clock of a run is counted
+pub run-clocks : (d : Device) (r : Run) (xs : List ℕ) → clocksIn (runOf d r xs .progress) ≡ clocksIn (r .progress) + length xs
+unfolding runOf
+run-clocks d r [] = rw add-zero
+run-clocks d r (x ∷ xs) =
+    let r′ = stepOf (termsOf d) r x in
+    let e = step-one (termsOf d) r x in
+    run-clocks d r′ xs ∙ omega arith

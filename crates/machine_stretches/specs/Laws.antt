@@ -28,26 +28,17 @@ use Rattle.progress.specs.declared.Progress.{Progress}
 use Rattle.progress.specs.Progress.{beginOf}
 use Rattle.contract_words.specs.Words.{lends, Run, runAs, begun, worldOf}
 use Rattle.paper.specs.InForce.{commandClocks, wiresFor, addressClocks, waitClocks, bodyFor}
-use Rattle.paper.specs.Reading.{many, kindRead, addressRead, dataPart, restPart, Reading, readingOf}
+use Rattle.paper.specs.Reading.{many, kindRead, addressRead, dataPart, restPart, dataOf, Reading, readingOf}
 use Rattle.paper.specs.ReadingLaws.{data-and-rest}
 use Rattle.paper.specs.Storing.{Lent}
 use Rattle.paper.specs.Answers.{Facts}
 use Rattle.paper.specs.Transaction.{factsOf, over, clockedOf}
-use Rattle.machine_phases.specs.Machine.{termsOf, stepOf, runOf, outsOf}
+use Rattle.machine_phases.specs.Machine.{runOf, outsOf}
 use Rattle.machine_end.specs.Finish.{factsIn, outcomeOf, finishOf}
 use Rattle.machine_bridge.specs.Bridge.{facts-read, bridge}
 use Rattle.machine_run.specs.Fed.{Feedable, Fed}
-use Rattle.machine_phases.specs.RunLaws.{run-append, outs-append, outs-length, step-one}
-use Rattle.machine_stretches.specs.Stretches.{reachOf, dataOf, placeOf, upcoming, headOf, dataClocks, Passed, Advancing, Advanced, Going, Come, Ahead}
-
--- every clock of a run is counted
-pub run-clocks : (d : Device) (r : Run) (xs : List ℕ) → placeOf (runOf d r xs) ≡ placeOf r + length xs
-unfolding runOf
-run-clocks d r [] = rw add-zero
-run-clocks d r (x ∷ xs) =
-    let r′ = stepOf (termsOf d) r x in
-    let e = step-one (termsOf d) r x in
-    run-clocks d r′ xs ∙ omega arith
+use Rattle.machine_phases.specs.RunLaws.{run-append, outs-append, outs-length, run-clocks}
+use Rattle.machine_stretches.specs.Stretches.{reachOf, placeOf, upcoming, headOf, dataClocks, Passed, Advancing, Advanced, Going, Come, Ahead}
 
 -- ---- the end of a part
 -- clocks that are fewer than those left come to no more than all

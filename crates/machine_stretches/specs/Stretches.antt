@@ -6,10 +6,7 @@ use mathlib.Core.List.{List, _++_}
 use lib.Dec.{ltb}
 use lib.ListN.{length, take, drop}
 use Rattle.units.specs.declared.Clocks.{Clocks}
-use Rattle.units.specs.declared.Wires.{Wires}
-use Rattle.units.specs.Units.{clocks, clocksWithin}
-use Rattle.commands.specs.declared.plans.Body.{Body}
-use Rattle.commands.specs.declared.plans.Body.the-variants.{Nothing, FixedRead, AnyRead, FixedWrite, AnyWrite}
+use Rattle.units.specs.Units.{clocks}
 use Rattle.counts.specs.Counts.{total}
 use Rattle.record.specs.declared.devices.Device.{Device}
 use Rattle.record.specs.Devices.{settingOf}
@@ -23,14 +20,6 @@ use Rattle.machine_phases.specs.Machine.{runOf, outsOf}
 -- so many clocks after a place, or the end of n samples
 unfoldable pub reachOf : Clocks → Clocks → ℕ → ℕ
 reachOf from c n = cond (ltb (c .0) (n - from .0)) (from .0 + c .0) n
-
--- the data clocks among all that there are
-abbrev pub dataOf : Body → Wires → Clocks → Clocks
-dataOf Nothing w all = clocks 0
-dataOf (FixedRead b) w all = clocksWithin w b all
-dataOf AnyRead w all = all
-dataOf (FixedWrite b) w all = clocksWithin w b all
-dataOf AnyWrite w all = all
 
 -- the place that a transaction has come to: as many clocks as it has counted
 abbrev pub placeOf : Run → ℕ

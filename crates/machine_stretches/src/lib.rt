@@ -6,14 +6,11 @@ ghost use Rattle.progress.specs.Progress.{beginOf};
 ghost use Rattle.contract_words.specs.Words.{lends, runAs, worldOf};
 ghost use Rattle.paper.specs.Transaction.{clockedOf};
 ghost use Rattle.units.specs.Units.{clocks};
-ghost use Rattle.machine_stretches.specs.Stretches.{reachOf, dataOf, headOf, dataClocks, Passed, Advancing, Advanced, Come, Ahead};
-use commands::plans::Body;
+ghost use Rattle.machine_stretches.specs.Stretches.{reachOf, headOf, dataClocks, Passed, Advancing, Advanced, Come, Ahead};
 use progress::Progress;
 use record::Device;
 use record::Outcome;
 use units::Clocks;
-use units::Wires;
-use units::clocks_within;
 
 // Where so many clocks more come to, or the end of all that there are.
 fn reach(from: Clocks, c: Clocks, all: Clocks) -> Clocks
@@ -24,19 +21,6 @@ fn reach(from: Clocks, c: Clocks, all: Clocks) -> Clocks
         return from.plus(c);
     }
     all
-}
-
-// The data clocks among all that there are.
-fn data_clocks(b: Body, w: Wires, all: Clocks) -> Clocks
-    ensures { λ r. ⌜ r ≡ dataOf b w all ⌝ }
-{
-    match b {
-        Body::Nothing => Clocks::none(),
-        Body::FixedRead(size) => clocks_within(size, w, all),
-        Body::AnyRead => all,
-        Body::FixedWrite(size) => clocks_within(size, w, all),
-        Body::AnyWrite => all,
-    }
 }
 
 // The next clocks of the samples, so many or as many as are left, fed as a part of the slices.
@@ -99,7 +83,7 @@ fn over_data(
     let k = p.kind;
     let body = plan_in_force::body_for(s, k, p.address);
     let w = plan_in_force::wires_for(s, k);
-    let data = data_clocks(body, w, Clocks::of_samples(samples));
+    let data = plan_in_force::data_clocks(body, w, Clocks::of_samples(samples));
     advance(d, p, memory, area, samples, output, data)
 }
 
