@@ -1,4 +1,4 @@
--- UNIQUE for the device's two calls: the contract leaves no room for a second result.
+-- UNIQUE for the device's five calls: the contract leaves no room for a second result.
 -- Assumes nothing.
 use mathlib.Core.Path.{_≡_, refl}
 use Prim.Native.Nat.{ℕ}
@@ -9,6 +9,7 @@ use Rattle.paper.specs.Storing.{Lent}
 use Rattle.paper.specs.Transaction.{World, transactOf, powerOf}
 use Rattle.record.specs.declared.devices.Outcome.{Outcome}
 use Rattle.contract_words.specs.Words.{worldOf, outcomeIn}
+use Rattle.machine_chunks.specs.Chunks.{openOf, feedOf, closeOf}
 
 -- a result, and what is lent as the call leaves it
 pub record Ended : Type 0 where
@@ -33,3 +34,12 @@ module _ (d : Device) (l : Lent) {x y : Ended} where
 
   pub power-cycle-unique : shows x ≡ powerOf d l → shows y ≡ powerOf d l → x ≡ y
   power-cycle-unique = one-end
+
+  pub open-unique : shows x ≡ openOf d l → shows y ≡ openOf d l → x ≡ y
+  open-unique = one-end
+
+  pub feed-unique : (xs out : List ℕ) → shows x ≡ feedOf d l xs out → shows y ≡ feedOf d l xs out → x ≡ y
+  feed-unique xs out = one-end
+
+  pub close-unique : shows x ≡ closeOf d l → shows y ≡ closeOf d l → x ≡ y
+  close-unique = one-end
