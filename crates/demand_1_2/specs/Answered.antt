@@ -147,7 +147,7 @@ module _ (o : Order) (room : List ℕ) (done : buildOf o room .answer ≡ Done) 
       unfolding roomFor
       clocked =
           when-accepted d l built out
-          (record { sized = r .sized; room = rw (le-leb (length built) 65535 short-enough, le-leb (length built) (length out) (r .room)); levels = all-samples; valid = m .valid })
+          (record { sized = r .sized; room = rw (le-leb (length built) 65535 short-enough, le-leb (length built) (length out) (r .room)); levels = all-samples; valid = m .valid; turn = m .idle })
 
       abbrev tests : Table
       tests = tableFor d (factsOf s (readingOf s built))

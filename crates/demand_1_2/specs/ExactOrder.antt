@@ -22,9 +22,9 @@ use Rattle.paper.specs.CallLaws.{answer-by}
 abbrev pub wholeTable : Device → Lent → List ℕ → List ℕ → List (Bool × Answer)
 wholeTable d l xs out = transactChecks d l xs out ++ listed (tableFor d (factsOf (settingOf d) (readingOf (settingOf d) xs)))
 
--- its rows stand in document 01's order
+-- its rows stand in document 01's order, with 13 after 3 (document 02, P1)
 pub in-order : (d : Device) (l : Lent) (xs out : List ℕ)
-    → map (λ r. answerNumber (r .1)) (wholeTable d l xs out) ≡ 1 ∷ 2 ∷ 3 ∷ 4 ∷ 6 ∷ 5 ∷ 4 ∷ 7 ∷ 4 ∷ 11 ∷ 12 ∷ 8 ∷ 10 ∷ 9 ∷ []
+    → map (λ r. answerNumber (r .1)) (wholeTable d l xs out) ≡ 1 ∷ 2 ∷ 3 ∷ 13 ∷ 4 ∷ 6 ∷ 5 ∷ 4 ∷ 7 ∷ 4 ∷ 11 ∷ 12 ∷ 8 ∷ 10 ∷ 9 ∷ []
 in-order d l xs out = refl
 
 -- THE ANSWER OF A TRANSACTION is the first row's that holds

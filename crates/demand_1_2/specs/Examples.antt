@@ -20,7 +20,8 @@ use Rattle.commands.specs.Registers.{mappedOf}
 use Rattle.record.specs.declared.devices.Device.{Device}
 use Rattle.record.specs.Fresh.{makeOf, freshOf}
 use Rattle.state_check.specs.Values.{statusAllowed, cr3Allowed, cr4Allowed, configurationsAllowed, modeRegisterAllowed}
-use Rattle.state_check.specs.States.{modeAllowed, zeros, mramRegisters, psramRegisters, mramVolatile, psramVolatile, mramIdentity, psramIdentity, validOf}
+use Rattle.state_check.specs.States.{modeAllowed, zeros, mramRegisters, psramRegisters, mramVolatile, psramVolatile, mramIdentity, psramIdentity, inRange}
+use Rattle.paper.specs.Underway.{validOf, underwayValid, factless}
 use Rattle.paper.specs.InForce.{refusedAt}
 use Rattle.paper.specs.Storing.{Lent}
 use Rattle.paper.specs.Transaction.{sizedFor, over}
@@ -87,40 +88,40 @@ Says o d l = Understood o d l (sent (buildOf o room)) room
 
 -- EB on part P, four bytes
 pub quad-read : Says (asks 2 0xEB 0x0003FE [] (bytes 4)) (chip P) (lent P)
-unfolding kindAsked beyond overlong spreadAll builtOf buildOf bytewise shiftOf gatherFrom spelled meaningOf mappedOf statusAllowed cr3Allowed cr4Allowed configurationsAllowed modeRegisterAllowed modeAllowed zeros mramRegisters psramRegisters mramVolatile psramVolatile mramIdentity psramIdentity validOf refusedAt offered sizedFor over
+unfolding kindAsked beyond overlong spreadAll builtOf buildOf bytewise shiftOf gatherFrom spelled meaningOf mappedOf statusAllowed cr3Allowed cr4Allowed configurationsAllowed modeRegisterAllowed modeAllowed zeros mramRegisters psramRegisters mramVolatile psramVolatile mramIdentity psramIdentity validOf inRange underwayValid factless refusedAt offered sizedFor over
 quad-read =
     understood (asks 2 0xEB 0x0003FE [] (bytes 4)) room refl (record { opcode = lit< tt; written = refl }) (chip P)
-    (record { part = refl; mode = refl; valid = refl; awake = refl; waits = λ e. untrue e; allows = refl }) (lent P) room
+    (record { part = refl; mode = refl; valid = refl; idle = refl; awake = refl; waits = λ e. untrue e; allows = refl }) (lent P) room
     (record { sized = refl; room = lit≤ tt; whole = whole-P })
 
 -- 4B on part M: the wait is configuration 2's
 pub area-read : Says (asks 1 0x4B 0x000010 [] (bytes 3)) (chip M) (lent M)
-unfolding kindAsked beyond overlong spreadAll builtOf buildOf bytewise shiftOf gatherFrom spelled meaningOf mappedOf statusAllowed cr3Allowed cr4Allowed configurationsAllowed modeRegisterAllowed modeAllowed zeros mramRegisters psramRegisters mramVolatile psramVolatile mramIdentity psramIdentity validOf refusedAt offered sizedFor over
+unfolding kindAsked beyond overlong spreadAll builtOf buildOf bytewise shiftOf gatherFrom spelled meaningOf mappedOf statusAllowed cr3Allowed cr4Allowed configurationsAllowed modeRegisterAllowed modeAllowed zeros mramRegisters psramRegisters mramVolatile psramVolatile mramIdentity psramIdentity validOf inRange underwayValid factless refusedAt offered sizedFor over
 area-read =
     understood (asks 1 0x4B 0x000010 [] (bytes 3)) room refl (record { opcode = lit< tt; written = refl }) (chip M)
-    (record { part = refl; mode = refl; valid = refl; awake = refl; waits = λ e. refl; allows = refl }) (lent M) room
+    (record { part = refl; mode = refl; valid = refl; idle = refl; awake = refl; waits = λ e. refl; allows = refl }) (lent M) room
     (record { sized = refl; room = lit≤ tt; whole = whole-M })
 
 -- 65 at status, eight bytes asked for
 pub mapped-read : Says (asks 1 0x65 0x000000 [] (bytes 8)) (chip M) (lent M)
-unfolding kindAsked beyond overlong spreadAll builtOf buildOf bytewise shiftOf gatherFrom spelled meaningOf mappedOf statusAllowed cr3Allowed cr4Allowed configurationsAllowed modeRegisterAllowed modeAllowed zeros mramRegisters psramRegisters mramVolatile psramVolatile mramIdentity psramIdentity validOf refusedAt offered sizedFor over
+unfolding kindAsked beyond overlong spreadAll builtOf buildOf bytewise shiftOf gatherFrom spelled meaningOf mappedOf statusAllowed cr3Allowed cr4Allowed configurationsAllowed modeRegisterAllowed modeAllowed zeros mramRegisters psramRegisters mramVolatile psramVolatile mramIdentity psramIdentity validOf inRange underwayValid factless refusedAt offered sizedFor over
 mapped-read =
     understood (asks 1 0x65 0x000000 [] (bytes 8)) room refl (record { opcode = lit< tt; written = refl }) (chip M)
-    (record { part = refl; mode = refl; valid = refl; awake = refl; waits = λ e. untrue e; allows = refl }) (lent M) room
+    (record { part = refl; mode = refl; valid = refl; idle = refl; awake = refl; waits = λ e. untrue e; allows = refl }) (lent M) room
     (record { sized = refl; room = lit≤ tt; whole = whole-M })
 
 -- 02 on part M, three bytes from the last but one
 pub write : Says (asks 1 0x02 0x0003FE (1 ∷ 2 ∷ 3 ∷ []) (bytes 0)) (chip M) (lent M)
-unfolding kindAsked beyond overlong spreadAll builtOf buildOf bytewise shiftOf gatherFrom spelled meaningOf mappedOf statusAllowed cr3Allowed cr4Allowed configurationsAllowed modeRegisterAllowed modeAllowed zeros mramRegisters psramRegisters mramVolatile psramVolatile mramIdentity psramIdentity validOf refusedAt offered sizedFor over
+unfolding kindAsked beyond overlong spreadAll builtOf buildOf bytewise shiftOf gatherFrom spelled meaningOf mappedOf statusAllowed cr3Allowed cr4Allowed configurationsAllowed modeRegisterAllowed modeAllowed zeros mramRegisters psramRegisters mramVolatile psramVolatile mramIdentity psramIdentity validOf inRange underwayValid factless refusedAt offered sizedFor over
 write =
     understood (asks 1 0x02 0x0003FE (1 ∷ 2 ∷ 3 ∷ []) (bytes 0)) room refl (record { opcode = lit< tt; written = refl }) (chip M)
-    (record { part = refl; mode = refl; valid = refl; awake = refl; waits = λ e. untrue e; allows = refl }) (lent M) room
+    (record { part = refl; mode = refl; valid = refl; idle = refl; awake = refl; waits = λ e. untrue e; allows = refl }) (lent M) room
     (record { sized = refl; room = lit≤ tt; whole = whole-M })
 
 -- 65 at 80h on part M32, the serial number
 pub serial-read : Says (asks 3 0x65 0x000080 [] (bytes 8)) (chip M32) (lent M32)
-unfolding kindAsked beyond overlong spreadAll builtOf buildOf bytewise shiftOf gatherFrom spelled meaningOf mappedOf statusAllowed cr3Allowed cr4Allowed configurationsAllowed modeRegisterAllowed modeAllowed zeros mramRegisters psramRegisters mramVolatile psramVolatile mramIdentity psramIdentity validOf refusedAt offered sizedFor over
+unfolding kindAsked beyond overlong spreadAll builtOf buildOf bytewise shiftOf gatherFrom spelled meaningOf mappedOf statusAllowed cr3Allowed cr4Allowed configurationsAllowed modeRegisterAllowed modeAllowed zeros mramRegisters psramRegisters mramVolatile psramVolatile mramIdentity psramIdentity validOf inRange underwayValid factless refusedAt offered sizedFor over
 serial-read =
     understood (asks 3 0x65 0x000080 [] (bytes 8)) room refl (record { opcode = lit< tt; written = refl }) (chip M32)
-    (record { part = refl; mode = refl; valid = refl; awake = refl; waits = λ e. untrue e; allows = refl }) (lent M32) room
+    (record { part = refl; mode = refl; valid = refl; idle = refl; awake = refl; waits = λ e. untrue e; allows = refl }) (lent M32) room
     (record { sized = refl; room = lit≤ tt; whole = whole-M32 })

@@ -36,26 +36,28 @@ use Rattle.commands.specs.declared.plans.Body.the-variants.{Nothing, FixedRead,
 use Rattle.record.specs.declared.devices.Registers.{Registers}
 use Rattle.record.specs.declared.devices.Identities.{Identities}
 use Rattle.record.specs.declared.devices.Make.{Make}
+use Rattle.record.specs.declared.devices.Underway.{Underway}
 use Rattle.record.specs.declared.devices.Device.{Device}
 use Rattle.record.specs.declared.devices.Setting.{Setting}
 use Rattle.record.specs.declared.devices.Aim.{Aim}
 use Rattle.record.specs.Answers.{isDone, refuses}
 use Rattle.record.specs.Devices.{settingOf, aimOf}
-use Rattle.record.specs.Fields.{armTo, modeTo, sleepTo}
+use Rattle.record.specs.Fields.{armTo, modeTo, sleepTo, noUnderway}
 use Rattle.record.specs.Fresh.{freshVolatile, freshModeRegister, freshRegisters, freshIdentity, freshOf}
 use Rattle.record.specs.Resets.{modeRegisterTo, resetFor, poweredOf}
 use Rattle.record.specs.Shows.{withoutLatch}
 use Rattle.changes.specs.Latches.{writeMode, afterBurst}
 use Rattle.changes.specs.Changes.{controlled, writtenTo, burstDone, effectOf, settledOf}
 use Rattle.state_check.specs.Values.{statusAllowed, cr3Allowed, cr4Allowed, configurationsAllowed, modeRegisterAllowed, reservedOf}
-use Rattle.state_check.specs.States.{modeAllowed, zeros, mramRegisters, mramVolatile, mramIdentity, psramRegisters, psramVolatile, psramIdentity, validFor, validOf}
+use Rattle.state_check.specs.States.{modeAllowed, zeros, mramRegisters, mramVolatile, mramIdentity, psramRegisters, psramVolatile, psramIdentity, validFor, inRange}
+use Rattle.paper.specs.Underway.{reached, factless, underwayValid, validOf}
 use Rattle.paper.specs.InForce.{commandClocks}
 use Rattle.paper.specs.Reading.{first, many, full, kindRead, Reading, readingOf}
 use Rattle.paper.specs.Storing.{Lent, intoArea, protectedAt, putAt, storeByte, takeAll}
 use Rattle.paper.specs.Table.{by-row}
 use Rattle.paper.specs.Answers.{Facts, reservedFor, tableFor, judge}
-use Rattle.paper.specs.Transaction.{World, sizedFor, roomFor, sentBytes, bodyIn, factsOf, storedBy, outputOf, over, memoryAfter, poweredUp, clockedOf, transactOf, powerOf}
-use Rattle.paper.specs.CallLaws.{Untouched, accepted, not-refused}
+use Rattle.paper.specs.Transaction.{World, sizedFor, roomFor, sentBytes, bodyIn, factsOf, storedBy, outputOf, over, memoryAfter, powerChecks, poweredUp, clockedOf, transactOf, powerOf}
+use Rattle.paper.specs.CallLaws.{Untouched, passed-by, made-by, accepted, not-refused, power-refused-so}
 use Rattle.demand_1_2.specs.Refused.{refused}
 use Rattle.demand_1_2.specs.Driven.{driven-length}
 
@@ -157,9 +159,9 @@ Fields Mram p d =
     OfMram p (r .status) (r .cr1) (r .cr2) (r .cr3) (r .cr4) (r .mr0) (d .volatile .mode) (d .volatile .toggle) (d .identity .device)
 Fields Psram p d = OfPsram (d .registers) (d .volatile .latch) (d .volatile .asleep) (d .volatile .mode) (d .identity)
 
--- of the same make, which no call changes
-abbrev Of : Family → Part → Make → Device → Type 0
-Of f p m d = (d .make ≡ m) × Fields f p d
+-- of the same make, which no call changes, and with the same transaction open, which no command touches
+abbrev Of : Family → Part → Make → Underway → Device → Type 0
+Of f p m u d = ((d .make ≡ m) × (d .underway ≡ u)) × Fields f p d
 
 fields : (f : Family) (p : Part) (d : Device) → validFor f p d ≡ true → Fields f p d
 unfolding mramRegisters mramVolatile mramIdentity psramRegisters psramVolatile
@@ -216,9 +218,9 @@ down-stays cr4 latch e = by (eqb (writeMode cr4) 0)
     by true = refl
     by false = e
 
-module _ (p : Part) (m : Make) where
+module _ (p : Part) (m : Make) (u : Underway) where
   -- another bus mode that the family has
-  in-mode : (f : Family) (d : Device) (mode : ℕ) → modeAllowed f mode ≡ true → Of f p m d → Of f p m (modeTo mode d)
+  in-mode : (f : Family) (d : Device) (mode : ℕ) → modeAllowed f mode ≡ true → Of f p m u d → Of f p m u (modeTo mode d)
   in-mode Mram d mode e (g, o) = (
     g,
     record {
@@ -234,16 +236,16 @@ module _ (p : Part) (m : Make) where
   in-mode Psram d mode e (g, o) = (g, record { others = o .others; register = o .register; unlatched = o .unlatched; awake = o .awake; wired = e; identity = o .identity })
 
   -- another mode register that the PSRAM may have
-  with-register : (d : Device) (v : ℕ) → modeRegisterAllowed v ≡ true → Of Psram p m d → Of Psram p m (modeRegisterTo v d)
+  with-register : (d : Device) (v : ℕ) → modeRegisterAllowed v ≡ true → Of Psram p m u d → Of Psram p m u (modeRegisterTo v d)
   with-register d v e (g, o) = (g, record { others = o .others; register = e; unlatched = o .unlatched; awake = o .awake; wired = o .wired; identity = o .identity })
 
   -- ---- what each command leaves
-  reset-kept : (f : Family) (d : Device) → Of f p m d → Of f p m (resetFor f d)
+  reset-kept : (f : Family) (d : Device) → Of f p m u d → Of f p m u (resetFor f d)
   reset-kept Mram d o = in-mode Mram d 1 (modes Mram .0) o
   reset-kept Psram d o = with-register (modeTo 1 d) freshModeRegister fresh-register (in-mode Psram d 1 (modes Psram .0) o)
 
   -- a command without data
-  control-kept : (f : Family) (d : Device) (c : Control) → familyOf (partOf (d .make .part)) ≡ f → controls f c ≡ true → Of f p m d → Of f p m (controlled c d)
+  control-kept : (f : Family) (d : Device) (c : Control) → familyOf (partOf (d .make .part)) ≡ f → controls f c ≡ true → Of f p m u d → Of f p m u (controlled c d)
   control-kept f d NoOperation e h o = o
   control-kept Mram d WriteEnable e h o = o
   control-kept Psram d WriteEnable e h o = untrue h
@@ -259,12 +261,12 @@ module _ (p : Part) (m : Make) where
   control-kept Psram d Wake e h o = untrue h
   control-kept Mram d ResetEnable e h o = o
   control-kept Psram d ResetEnable e h o = o
-  control-kept f d Reset e h o = subst (λ (g : Family). Of f p m (resetFor g d)) (sym e) (reset-kept f d o)
+  control-kept f d Reset e h o = subst (λ (g : Family). Of f p m u (resetFor g d)) (sym e) (reset-kept f d o)
   control-kept Mram d Toggle e h o = untrue h
   control-kept Psram d Toggle e h o = o
 
   -- a register write of the MRAM that row 10 lets pass
-  register-kept : (d : Device) (r : Register) (v : List ℕ) → registers r ≡ true → reservedOf p r v ≡ false → Of Mram p m d → Of Mram p m (writtenTo r v d)
+  register-kept : (d : Device) (r : Register) (v : List ℕ) → registers r ≡ true → reservedOf p r v ≡ false → Of Mram p m u d → Of Mram p m u (writtenTo r v d)
   register-kept d At.Status v h n (g, o) =
       let s = status-kept (getD v 0 0) (not-untrue _ n) in (
         g,
@@ -302,7 +304,7 @@ module _ (p : Part) (m : Make) where
   register-kept d At.LongIdentity v h n o = o
 
   -- a burst: the latch goes down, or stays as it is
-  burst-kept : (f : Family) (d : Device) → Of f p m d → Of f p m (burstDone d)
+  burst-kept : (f : Family) (d : Device) → Of f p m u d → Of f p m u (burstDone d)
   burst-kept Mram d o = o
   burst-kept Psram d (g, o) = (
     g,
@@ -318,7 +320,7 @@ module _ (p : Part) (m : Make) where
 
   -- any command of the family that is done
   effect-kept : (f : Family) (d : Device) (k : Kind) (v : List ℕ) → familyOf (partOf (d .make .part)) ≡ f → has f k ≡ true → reservedFor p k v ≡ false
-      → Of f p m d → Of f p m (effectOf k v d)
+      → Of f p m u d → Of f p m u (effectOf k v d)
   effect-kept f d Unknown v e h n o = o
   effect-kept f d (Plain c) v e h n o = control-kept f d c e h o
   effect-kept f d (Read s) v e h n o = o
@@ -330,33 +332,58 @@ module _ (p : Part) (m : Make) where
   effect-kept f d (Write Into.Area) v e h n o = burst-kept f d o
 
   -- the arming is as it may be, and so are sleep and waking
-  disarmed : (f : Family) (d : Device) → Of f p m d → Of f p m (armTo false d)
+  disarmed : (f : Family) (d : Device) → Of f p m u d → Of f p m u (armTo false d)
   disarmed Mram d o = o
   disarmed Psram d o = o
 
 -- ---- a record of the make that was valid, and is
-abbrev Good : Make → Device → Type 0
-Good m d = Of (familyOf (partOf (m .part))) (partOf (m .part)) m d
+abbrev Good : Make → Underway → Device → Type 0
+Good m u d = Of (familyOf (partOf (m .part))) (partOf (m .part)) m u d
 
-good : (d : Device) → validOf d ≡ true → Good (d .make) d
+-- the two parts of the state check
+pub valid-range : (d : Device) → validOf d ≡ true → inRange d ≡ true
 unfolding validOf
-good d v = (refl, fields (familyOf (partOf (d .make .part))) (partOf (d .make .part)) d v)
+valid-range d v = both-true (inRange d) (underwayValid (settingOf d) (d .underway)) v .0
 
-still-valid : (m : Make) (d : Device) → Good m d → validOf d ≡ true
+pub valid-underway : (d : Device) → validOf d ≡ true → underwayValid (settingOf d) (d .underway) ≡ true
 unfolding validOf
-still-valid m d (g, o) =
-    subst (λ (n : Make). validFor (familyOf (partOf (n .part))) (partOf (n .part)) d ≡ true) (sym g) (whole (familyOf (partOf (m .part))) (partOf (m .part)) d o)
+valid-underway d v = both-true (inRange d) (underwayValid (settingOf d) (d .underway)) v .1
+
+good : (d : Device) → validOf d ≡ true → Good (d .make) (d .underway) d
+unfolding inRange
+good d v = ((refl, refl), fields (familyOf (partOf (d .make .part))) (partOf (d .make .part)) d (valid-range d v))
+
+still-ranged : (m : Make) (u : Underway) (d : Device) → Good m u d → inRange d ≡ true
+unfolding inRange
+still-ranged m u d (g, o) =
+    subst (λ (n : Make). validFor (familyOf (partOf (n .part))) (partOf (n .part)) d ≡ true) (sym (g .0)) (whole (familyOf (partOf (m .part))) (partOf (m .part)) d o)
+
+-- where none is open, and there are no facts of one
+idle : (b x y : Bool) → b ≡ false → cond b x y ≡ y
+idle b x y e = rw e
+
+pub idle-valid : (u : Underway) (d : Device) → d .underway ≡ u → u .selected ≡ false → factless u ≡ true → inRange d ≡ true → validOf d ≡ true
+unfolding validOf underwayValid
+idle-valid u d e n f r = rw r (idle (d .underway .selected) (reached (settingOf d) (d .underway)) (factless (d .underway)) (ap (λ (v : Underway). v .selected) e ∙ n) ∙ ap factless e ∙ f)
+
+pub idle-facts : (d : Device) → validOf d ≡ true → d .underway .selected ≡ false → factless (d .underway) ≡ true
+unfolding underwayValid
+idle-facts d v n = sym (idle (d .underway .selected) (reached (settingOf d) (d .underway)) (factless (d .underway)) n) ∙ valid-underway d v
+
+still-valid : (d e : Device) → validOf d ≡ true → d .underway .selected ≡ false → Good (d .make) (d .underway) e → validOf e ≡ true
+still-valid d e v n g = idle-valid (d .underway) e (g .0 .1) n (idle-facts d v n) (still-ranged (d .make) (d .underway) e g)
 
 -- THE RECORD after a transaction that was clocked, whatever its answer
-settled-kept : (d : Device) (x : Facts) → has (familyOf (partOf (d .make .part))) (x .kind) ≡ true → Good (d .make) d
-    → Good (d .make) (settledOf (x .kind) (x .tally .value) (judge d x) d)
+settled-kept : (d : Device) (x : Facts) → has (familyOf (partOf (d .make .part))) (x .kind) ≡ true → Good (d .make) (d .underway) d
+    → Good (d .make) (d .underway) (settledOf (x .kind) (x .tally .value) (judge d x) d)
 unfolding judge
 settled-kept d x h o =
     let m = d .make in
     let p = partOf (m .part) in
     let f = familyOf p in
-    let q : Good m (armTo false d) = disarmed p m f d o in
-    by-row (tableFor d x) (λ a. Good m (settledOf (x .kind) (x .tally .value) a d))
+    let u = d .underway in
+    let q : Good m u (armTo false d) = disarmed p m u f d o in
+    by-row (tableFor d x) (λ a. Good m u (settledOf (x .kind) (x .tally .value) a d))
     (record {
       cutCommand = λ e. q;
       asleep = λ e. q;
@@ -368,12 +395,12 @@ settled-kept d x h o =
       unarmed = λ e. q;
       latch = λ e. q;
       reserved = λ e. q;
-      shut = λ e. burst-kept p m f (armTo false d) q;
-      none = λ c. effect-kept p m f (armTo false d) (x .kind) (x .tally .value) refl h (c .reserved) q;
+      shut = λ e. burst-kept p m u f (armTo false d) q;
+      none = λ c. effect-kept p m u f (armTo false d) (x .kind) (x .tally .value) refl h (c .reserved) q;
     })
 
 -- ---- memory and area keep their sizes
-abbrev SameSize : Lent → Lent → Type 0
+abbrev pub SameSize : Lent → Lent → Type 0
 SameSize l k = (length (k .memory) ≡ length (l .memory)) × (length (k .area) ≡ length (l .area))
 
 put-size : (a : Aim) (i : Bytes) (b : ℕ) (l : Lent) → SameSize l (putAt a i b l)
@@ -384,7 +411,7 @@ put-size a i b l = by (intoArea (a .kind)) _ _
     by true x y = (refl, length-set (l .area) x b)
     by false x y = (length-set (l .memory) y b, refl)
 
-byte-size : (y : Body) (a : Aim) (i : Bytes) (b : ℕ) (l : Lent) → SameSize l (storeByte y a i b l)
+pub byte-size : (y : Body) (a : Aim) (i : Bytes) (b : ℕ) (l : Lent) → SameSize l (storeByte y a i b l)
 byte-size Nothing a i b l = (refl, refl)
 byte-size (FixedRead m) a i b l = (refl, refl)
 byte-size AnyRead a i b l = (refl, refl)
@@ -423,7 +450,7 @@ pub record Kept (d : Device) (l : Lent) (out : List ℕ) (w : World) : Type 0 wh
   pub output : length (w .output) ≡ length out
 
 module _ (d : Device) (l : Lent) (v : validOf d ≡ true) (sized : sizedFor d l ≡ true) where
-  untouched-kept : (out : List ℕ) (w : World) → Untouched d l out w → Kept d l out w
+  pub untouched-kept : (out : List ℕ) (w : World) → Untouched d l out w → Kept d l out w
   untouched-kept out w u =
       record {
         valid = rw (u .device) v;
@@ -435,7 +462,7 @@ module _ (d : Device) (l : Lent) (v : validOf d ≡ true) (sized : sizedFor d l 
       }
 
   -- what the clocks drive has room in the output
-  output-size : (xs ys out : List ℕ) → length ys ≡ length xs → atMost (many xs) (many out) ≡ true → length (over ys out) ≡ length out
+  pub output-size : (xs ys out : List ℕ) → length ys ≡ length xs → atMost (many xs) (many out) ≡ true → length (over ys out) ≡ length out
   unfolding over
   output-size xs ys out e r =
       let h = leb-true (length xs) (length out) r in
@@ -443,18 +470,18 @@ module _ (d : Device) (l : Lent) (v : validOf d ≡ true) (sized : sizedFor d l 
       let b = length-drop (length ys) out in
       omega arith
 
-  clocked-kept : (xs out : List ℕ) → roomFor xs out ≡ true → Kept d l out (clockedOf d l xs out)
+  clocked-kept : (xs out : List ℕ) → d .underway .selected ≡ false → roomFor xs out ≡ true → Kept d l out (clockedOf d l xs out)
   unfolding clockedOf roomFor factsOf readingOf
-  clocked-kept xs out r =
+  clocked-kept xs out n r =
       let s = settingOf d in
       let p = readingOf s xs in
       let x = factsOf s p in
       let g = settled-kept d x (has-read s (first (commandClocks s) xs)) (good d v) in
       let k = stored-size s p l (isDone (judge d x)) in
       record {
-        valid = still-valid (d .make) _ g;
-        sized = sized-again d _ l _ sized (g .0) k;
-        make = g .0;
+        valid = still-valid d _ v n g;
+        sized = sized-again d _ l _ sized (g .0 .0) k;
+        make = g .0 .0;
         memory = k .0;
         area = k .1;
         output = output-size xs (outputOf d l p (judge d x)) out (driven-length d l xs (judge d x)) (both-true (atMost (many xs) longest) _ r .1);
@@ -465,13 +492,24 @@ module _ (d : Device) (l : Lent) (v : validOf d ≡ true) (sized : sizedFor d l 
     where
       by : (b : Bool) → refuses (transactOf d l xs out .answer) ≡ b → Kept d l out (transactOf d l xs out)
       by true e = untouched-kept out (transactOf d l xs out) (refused d l xs out e)
-      by false e = rw (not-refused d l xs out e) (clocked-kept xs out (accepted d l xs out e .room))
+      by false e = rw (not-refused d l xs out e) (clocked-kept xs out (accepted d l xs out e .turn) (accepted d l xs out e .room))
+
+-- and no transaction is opened by it, or closed
+pub transact-underway : (d : Device) (l : Lent) (xs out : List ℕ) → validOf d ≡ true → transactOf d l xs out .device .underway ≡ d .underway
+unfolding clockedOf factsOf readingOf
+transact-underway d l xs out v = by (refuses (transactOf d l xs out .answer)) refl
+  where
+    by : (b : Bool) → refuses (transactOf d l xs out .answer) ≡ b → transactOf d l xs out .device .underway ≡ d .underway
+    by true e = ap (λ (z : Device). z .underway) (refused d l xs out e .device)
+    by false e =
+        ap (λ (w : World). w .device .underway) (not-refused d l xs out e)
+        ∙ settled-kept d (factsOf (settingOf d) (readingOf (settingOf d) xs)) (has-read (settingOf d) (first (commandClocks (settingOf d)) xs)) (good d v) .0 .1
 
 -- ---- a power cycle
-powered-kept : (p : Part) (m : Make) (f : Family) (d : Device) → familyOf (partOf (d .make .part)) ≡ f → Of f p m d → Of f p m (poweredOf d)
-powered-kept p m f d e o = subst (λ (g : Family). Of f p m (armTo false (sleepTo false (resetFor g d)))) (sym e) (by f (resetFor f d) (reset-kept p m f d o))
+powered-kept : (p : Part) (m : Make) (u : Underway) (f : Family) (d : Device) → familyOf (partOf (d .make .part)) ≡ f → Of f p m u d → Of f p m u (poweredOf d)
+powered-kept p m u f d e o = subst (λ (g : Family). Of f p m u (armTo false (sleepTo false (resetFor g d)))) (sym e) (by f (resetFor f d) (reset-kept p m u f d o))
   where
-    by : (g : Family) (c : Device) → Of g p m c → Of g p m (armTo false (sleepTo false c))
+    by : (g : Family) (c : Device) → Of g p m u c → Of g p m u (armTo false (sleepTo false c))
     by Mram c q = q
     by Psram c (g, q) = (g, record { others = q .others; register = q .register; unlatched = q .unlatched; awake = refl; wired = q .wired; identity = q .identity })
 
@@ -479,21 +517,33 @@ memory-size : (f : Family) (xs : List ℕ) → length (memoryAfter f xs) ≡ len
 memory-size Mram xs = refl
 memory-size Psram xs = length-replicate (length xs) 0
 
-pub power-kept : (d : Device) (l : Lent) → validOf d ≡ true → sizedFor d l ≡ true → Kept d l [] (powerOf d l)
+-- a power cycle that is not refused is made, with none open
+power-passed : (d : Device) (l : Lent) → refuses (powerOf d l .answer) ≡ false → (powerOf d l ≡ poweredUp d l) × (d .underway .selected ≡ false)
 unfolding powerOf
-power-kept d l v sized =
+power-passed d l e =
+    let c = passed-by d l [] (powerChecks d l) (poweredUp d l) (refl, (refl, (refl, tt))) e in
+    (made-by d l [] (powerChecks d l) (poweredUp d l) c, c .1 .1 .0)
+
+up-kept : (d : Device) (l : Lent) → validOf d ≡ true → sizedFor d l ≡ true → d .underway .selected ≡ false → Kept d l [] (poweredUp d l)
+up-kept d l v sized n =
     let p = partOf (d .make .part) in
-    let g = powered-kept p (d .make) (familyOf p) d refl (good d v) in
+    let g = powered-kept p (d .make) (d .underway) (familyOf p) d refl (good d v) in
     let k : SameSize l (poweredUp d l .lent) = (memory-size (familyOf p) (l .memory), refl) in
-    rw (sized, v)
-    (record { valid = still-valid (d .make) _ g; sized = sized-again d _ l _ sized (g .0) k; make = g .0; memory = k .0; area = k .1; output = refl })
+    record { valid = still-valid d _ v n g; sized = sized-again d _ l _ sized (g .0 .0) k; make = g .0 .0; memory = k .0; area = k .1; output = refl }
+
+pub power-kept : (d : Device) (l : Lent) → validOf d ≡ true → sizedFor d l ≡ true → Kept d l [] (powerOf d l)
+power-kept d l v sized = by (refuses (powerOf d l .answer)) refl
+  where
+    by : (b : Bool) → refuses (powerOf d l .answer) ≡ b → Kept d l [] (powerOf d l)
+    by true e = untouched-kept d l v sized [] (powerOf d l) (power-refused-so d l e)
+    by false e = let q = power-passed d l e in rw (q .0) (up-kept d l v sized (q .1))
 
 -- ---- a fresh chip is valid, whatever its make
 pub fresh-kept : (m : Make) (device unique : List ℕ) → validOf (freshOf m device unique) ≡ true
-unfolding validOf statusAllowed cr3Allowed cr4Allowed configurationsAllowed modeRegisterAllowed modeAllowed zeros mramRegisters mramVolatile mramIdentity psramRegisters psramVolatile psramIdentity
-fresh-kept m device unique = by (partOf (m .part))
+unfolding validOf inRange underwayValid factless statusAllowed cr3Allowed cr4Allowed configurationsAllowed modeRegisterAllowed modeAllowed zeros mramRegisters mramVolatile mramIdentity psramRegisters psramVolatile psramIdentity
+fresh-kept m device unique = rw (by (partOf (m .part)))
   where
-    by : (p : Part) → validFor (familyOf p) p (record { make = m; registers = freshRegisters p; volatile = freshVolatile; identity = freshIdentity (familyOf p) device unique }) ≡ true
+    by : (p : Part) → validFor (familyOf p) p (record { make = m; registers = freshRegisters p; volatile = freshVolatile; identity = freshIdentity (familyOf p) device unique; underway = noUnderway }) ≡ true
     by M = refl
     by P = refl
     by M32 = refl

@@ -13,8 +13,8 @@ use Rattle.commands.specs.Plans.{laterWires, bodyOf, waitsByRegister}
 use Rattle.record.specs.declared.answers.Answer.{Answer}
 use Rattle.record.specs.declared.devices.Device.{Device}
 use Rattle.record.specs.Devices.{settingOf}
-use Rattle.record.specs.declared.answers.Answer.the-variants.{Done, Size, Sample, State, Short, Unknown, Asleep, Address, Latch, Protected, Reserved, Long, Unarmed}
-use Rattle.state_check.specs.States.{validOf}
+use Rattle.record.specs.declared.answers.Answer.the-variants.{Done, Size, Sample, State, Short, Unknown, Asleep, Address, Latch, Protected, Reserved, Long, Unarmed, Turn}
+use Rattle.paper.specs.Underway.{validOf}
 use Rattle.paper.specs.InForce.{refusedAt}
 use Rattle.paper.specs.Reading.{first}
 use Rattle.paper.specs.Storing.{Lent}
@@ -32,11 +32,12 @@ pub record Spelled (o : Order) : Type 0 where
   pub opcode : o .opcode < 256
   pub written : bytewise (o .written) ≡ true
 
--- a device that the order is for (D32)
+-- a device that the order is for (D32), with no transaction open (document 02, P1)
 pub record Meant (o : Order) (d : Device) : Type 0 where
   pub part : d .make .part ≡ o .part
   pub mode : d .volatile .mode ≡ o .mode
   pub valid : validOf d ≡ true
+  pub idle : d .underway .selected ≡ false
   pub awake : d .volatile .asleep ≡ false
   pub waits : waitsByRegister (kindAsked o) ≡ true → d .registers .cr2 ≡ o .cr2
   pub allows : refusedAt (settingOf d) (kindAsked o) (o .address) ≡ false
@@ -63,7 +64,7 @@ bodyMeant o = bodyOf (partOf (o .part)) (kindAsked o) (o .address)
 abbrev pub bytesRead : Order → Device → Lent → List ℕ
 bytesRead o d l = bytesFrom (byteRead d (kindAsked o) (o .address) l) 0 (bytesDriven (bodyMeant o) (o .wanted) .0)
 
--- an answer that finds no fault with the clocks: none of 1 to 7 and 11
+-- an answer that finds no fault with the clocks: none of 1 to 7, 11 and 13
 abbrev pub faultless : Answer → Bool
 faultless Done = true
 faultless Size = false
@@ -78,3 +79,4 @@ faultless Protected = true
 faultless Reserved = true
 faultless Long = false
 faultless Unarmed = true
+faultless Turn = false

@@ -29,7 +29,7 @@ bytewise [] = true
 bytewise (b ∷ bs) = ltb b 256 && bytewise bs
 
 -- ---- every sample that is sent is one of 0 to 15
-sampled-append : (xs ys : List ℕ) → sampled xs ≡ true → sampled ys ≡ true → sampled (xs ++ ys) ≡ true
+pub sampled-append : (xs ys : List ℕ) → sampled xs ≡ true → sampled ys ≡ true → sampled (xs ++ ys) ≡ true
 unfolding sampled
 sampled-append [] ys e f = f
 sampled-append (x ∷ xs) ys e f = let h = both-true (ltb x 16) (sampled xs) e in rw (h .0) (sampled-append xs ys (h .1) f)
@@ -65,7 +65,7 @@ pub byte-read : (w : Wires) (b : ℕ) → b < 256 → gather w (spelled w (perBy
 byte-read w b h = gather-spread w (perByte w) b (rw (bits-of-byte w) (omega arith)) (rw (bits-of-byte w) h)
 
 -- and so is an address
-three-bytes : (w : Wires) → wiresOf w * (3 * perByte w) ≡ 24
+pub three-bytes : (w : Wires) → wiresOf w * (3 * perByte w) ≡ 24
 three-bytes One = refl
 three-bytes Two = refl
 three-bytes Four = refl

@@ -29,7 +29,7 @@ use Rattle.changes.specs.Latches.{latchMissing, afterBurst}
 use Rattle.record.specs.Fields.{volatileTo}
 use Rattle.changes.specs.Changes.{settledOf}
 use Rattle.record.specs.Answers.{isDone}
-use Rattle.state_check.specs.States.{validOf}
+use Rattle.paper.specs.Underway.{validOf}
 use Rattle.paper.specs.InForce.{asleepFor, stopped, decided, commandClocks, addressClocks, waitClocks, wiresFor, bodyFor}
 use Rattle.paper.specs.Reading.{many, kindRead, dataPart, Reading, readingOf, countsIn, dataBytes}
 use Rattle.paper.specs.Laws.{data-many, along-zero}
@@ -205,10 +205,10 @@ module _ (d : Device) (l : Lent) (x : Call) (awake : d .volatile .asleep ≡ fal
         by false = stored-is
 
     -- A MEMORY WRITE, whole
-    pub write-call : Roomy x → sizedFor d l ≡ true → validOf d ≡ true
+    pub write-call : Roomy x → sizedFor d l ≡ true → validOf d ≡ true → d .underway .selected ≡ false
         → transactOf d l (x .samples) (x .room)
         ≡ worldAt (quietly s x answers) (relatch d (afterBurst (d .registers .cr4) (d .volatile .latch)) false) (record { memory = store (landed b) (l .memory); area = l .area })
     unfolding clockedOf factsOf
-    write-call roomy sized valid =
-        when-accepted d l (x .samples) (x .room) (record { sized = sized; room = roomy-for x (w .few) roomy; levels = w .levels; valid = valid })
+    write-call roomy sized valid idle =
+        when-accepted d l (x .samples) (x .room) (record { sized = sized; room = roomy-for x (w .few) roomy; levels = w .levels; valid = valid; turn = idle })
         ∙ rw answer-is (rw (write-moves, write-stores, quiet d l (x .samples) answers (ap reads body-any)))

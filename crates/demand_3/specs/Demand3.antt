@@ -31,7 +31,9 @@ use Rattle.record.specs.declared.devices.Device.{Device}
 use Rattle.record.specs.declared.devices.Setting.{Setting}
 use Rattle.record.specs.Devices.{settingOf}
 use Rattle.changes.specs.Latches.{writeMode, latchNeeded, latchMissing, afterBurst}
-use Rattle.state_check.specs.States.{mramVolatile, psramVolatile, psramRegisters, psramIdentity, modeAllowed, psramValid, validFor, validOf}
+use Rattle.state_check.specs.States.{mramVolatile, psramVolatile, psramRegisters, psramIdentity, modeAllowed, psramValid, validFor, inRange}
+use Rattle.paper.specs.Underway.{validOf}
+use Rattle.demand_1_2.specs.Kept.{valid-range, idle-valid, idle-facts}
 use Rattle.paper.specs.Transaction.{World, sizedFor, undriven, over}
 use Rattle.demand_3.specs.Steps.{runAll, Every, every-one, every-order, mem-map, any-order}
 use Rattle.demand_3.specs.Bursts.{Burst, storeFrom, store, placesFrom, placesOf, shutAll, leftAt, landed}
@@ -166,22 +168,25 @@ module _ (c : Chip) (r : Ready c) where
       by Mram v = tt
       by Psram v = latch-down d (m .latch) (m .armed) v
 
+  -- latch and arming have no part in the open transaction, of which there is none
+  valid-at : (latch armed : Bool) → validFor family (s .part) (relatch d latch armed) ≡ true → validOf (relatch d latch armed) ≡ true
+  unfolding inRange
+  valid-at latch armed v = idle-valid (d .underway) (relatch d latch armed) refl (r .idle) (idle-facts d (r .valid) (r .idle)) v
+
   -- the write of an episode, the latch being as the episode needs it
   write-step : (latch armed : Bool) (memory : List ℕ) → length memory ≡ length (c .lent .memory) → validFor family (s .part) (relatch d latch armed) ≡ true
       → (x : Call) → Roomy x → (w : MemoryWrite s (x .samples)) → latchMissing family (s .registers .cr4) latch (Write (Into.Memory (w .way))) ≡ false
       → called (chipAt c (record { latch = latch; armed = armed; memory = memory })) x
       ≡ worldAt (quietly s x (answerTo s (x .samples))) (relatch d (afterBurst (s .registers .cr4) latch) false)
       (record { memory = store (landed (aimed s (x .samples))) memory; area = c .lent .area })
-  unfolding validOf
   write-step latch armed memory long valid x roomy w free =
-      write-call (relatch d latch armed) (record { memory = memory; area = c .lent .area }) x (r .awake) w free roomy (sized-at latch armed memory long) valid
+      write-call (relatch d latch armed) (record { memory = memory; area = c .lent .area }) x (r .awake) w free roomy (sized-at latch armed memory long) (valid-at latch armed valid) (r .idle)
 
   enable-step : (m : Moving) → Fit m → (x : Call) → Roomy x → Enabling c (x .samples)
       → called (chipAt c m) x ≡ worldAt (quietly s x Done) (relatch d true false) (record { memory = m .memory; area = c .lent .area })
-  unfolding validOf
   enable-step m f x roomy q =
       enable-call d (c .lent) x (q .kind) (q .done) roomy (m .latch) (m .armed) (record { memory = m .memory; area = c .lent .area })
-      (sized-at (m .latch) (m .armed) (m .memory) (f .long)) (f .valid)
+      (sized-at (m .latch) (m .armed) (m .memory) (f .long)) (valid-at (m .latch) (m .armed) (f .valid))
 
   -- after the MRAM's enable
   enabled-valid : (m : Moving) → Fit m → family ≡ Mram → validFor family (s .part) (relatch d true false) ≡ true
@@ -324,15 +329,15 @@ module _ (c : Chip) (r : Ready c) where
   touched-in : (e : List (List ℕ)) (a : ℕ) → List·Mem a (touched s e) → a < length (c .lent .memory)
   touched-in e a m = rw (sizes .1) (places-below (burstOf s e) (2 ^ s .n) (burst-below e) a m)
 
--- DEMAND 3. The device is awake and in any valid state, what is lent has its size; the calls of the two programs clock the same episodes, in two orders, with buffers
+-- DEMAND 3. The device is awake, in any valid state and has no transaction open, what is lent has its size; the calls of the two programs clock the same episodes, in two orders, with buffers
 -- that have the room; no two episodes touch a place in common.
 pub demand-3 : (c : Chip) → Ready c → {k₁ k₂ : List (List Call)} → List·Permᴰ (clocked k₁) (clocked k₂) → RoomFor k₁ → RoomFor k₂ → Every (Episode c) (clocked k₁)
     → Pairwise (Apart (settingOf (c .device))) (clocked k₁) → AnyOrder c k₁ k₂
-unfolding validOf
+unfolding inRange
 demand-3 c r {k₁} {k₂} order room₁ room₂ episodes apart =
     let s = settingOf (c .device) in
     let m : Moving = record { latch = c .device .volatile .latch; armed = c .device .volatile .armed; memory = c .lent .memory } in
-    let f : Fit c r m = record { long = refl; valid = r .valid } in
+    let f : Fit c r m = record { long = refl; valid = valid-range (c .device) (r .valid) } in
     let episodes₂ : Every (Episode c) (clocked k₂) = every-order (Episode c) order episodes in
     let own : (e : List Call) → List·Mem e k₁ → (a : ℕ) → a < length (c .lent .memory)
     → getD (afterCalls c e .lent .memory) a 0 ≡ leftAt (burstOf s (samplesOf e)) a (getD (c .lent .memory) a 0) =

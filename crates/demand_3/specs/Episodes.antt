@@ -17,7 +17,7 @@ use Rattle.record.specs.declared.answers.Answer.the-variants.{Done}
 use Rattle.record.specs.declared.devices.Device.{Device}
 use Rattle.record.specs.declared.devices.Setting.{Setting}
 use Rattle.record.specs.Devices.{settingOf}
-use Rattle.state_check.specs.States.{validOf}
+use Rattle.paper.specs.Underway.{validOf}
 use Rattle.places.specs.Places.{writePlace}
 use Rattle.places.specs.Protection.{protectedOf}
 use Rattle.paper.specs.InForce.{wiresFor, refusedAt}
@@ -152,10 +152,11 @@ widened (x ∷ e) (r ∷ rs) = record { answer = r .answer; counts = r .counts; 
 unfoldable pub alone : Chip → List Call → List Reply
 alone c e = widened e (replies c (map fitted (samplesOf e)))
 
--- an awake device in a valid state, and what is lent has its size
+-- an awake device in a valid state with no transaction open, and what is lent has its size
 pub record Ready (c : Chip) : Type 0 where
   pub sized : sizedFor (c .device) (c .lent) ≡ true
   pub valid : validOf (c .device) ≡ true
+  pub idle : c .device .underway .selected ≡ false
   pub awake : c .device .volatile .asleep ≡ false
 
 -- ---- THE PROMISE, for two programs whose calls clock the same episodes in two orders, each with any buffers that have the room (D66)

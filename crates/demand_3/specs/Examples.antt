@@ -28,7 +28,8 @@ use Rattle.record.specs.Fields.{armTo, modeTo}
 use Rattle.record.specs.Resets.{modeRegisterTo}
 use Rattle.changes.specs.Changes.{statusTo}
 use Rattle.state_check.specs.Values.{statusAllowed, cr3Allowed, cr4Allowed, configurationsAllowed, modeRegisterAllowed}
-use Rattle.state_check.specs.States.{modeAllowed, zeros, mramRegisters, psramRegisters, mramVolatile, psramVolatile, mramIdentity, psramIdentity, validOf}
+use Rattle.state_check.specs.States.{modeAllowed, zeros, mramRegisters, psramRegisters, mramVolatile, psramVolatile, mramIdentity, psramIdentity, inRange}
+use Rattle.paper.specs.Underway.{validOf, underwayValid, factless}
 use Rattle.places.specs.Places.{readSpan, writeSpan, placeIn}
 use Rattle.places.specs.Protection.{shutMemory, sectionShut, protectedOf, areaProtectedOf}
 use Rattle.paper.specs.InForce.{addressBytes, asleepFor, refusedAt, stopped, decided, commandClocks, wiresFor, addressClocks, waitClocks, bodyFor}
@@ -108,33 +109,33 @@ listP = lapping ∷ folded ∷ []
 
 -- ---- the premises hold
 ready-mram : (first : Bool) → Ready (mram first)
-unfolding shiftOf gatherFrom spelled groupOf spreadAll meaningOf mappedOf statusAllowed cr3Allowed cr4Allowed configurationsAllowed modeRegisterAllowed modeAllowed zeros mramRegisters psramRegisters mramVolatile psramVolatile mramIdentity psramIdentity validOf readSpan writeSpan placeIn shutMemory sectionShut protectedOf areaProtectedOf asleepFor refusedAt stopped decided commandClocks wiresFor addressClocks waitClocks bodyFor kindRead addressRead readingOf bytesIn dataBytes protectedAt putAt howMany allShut takeAll byteRead levelAt along judge unarmed latchMissing offered sizedFor roomFor sampled sentBytes factsOf storedBy outputOf over clockedOf transactOf
-ready-mram true = record { sized = refl; valid = refl; awake = refl }
-ready-mram false = record { sized = refl; valid = refl; awake = refl }
+unfolding shiftOf gatherFrom spelled groupOf spreadAll meaningOf mappedOf statusAllowed cr3Allowed cr4Allowed configurationsAllowed modeRegisterAllowed modeAllowed zeros mramRegisters psramRegisters mramVolatile psramVolatile mramIdentity psramIdentity validOf inRange underwayValid factless readSpan writeSpan placeIn shutMemory sectionShut protectedOf areaProtectedOf asleepFor refusedAt stopped decided commandClocks wiresFor addressClocks waitClocks bodyFor kindRead addressRead readingOf bytesIn dataBytes protectedAt putAt howMany allShut takeAll byteRead levelAt along judge unarmed latchMissing offered sizedFor roomFor sampled sentBytes factsOf storedBy outputOf over clockedOf transactOf
+ready-mram true = record { sized = refl; valid = refl; idle = refl; awake = refl }
+ready-mram false = record { sized = refl; valid = refl; idle = refl; awake = refl }
 
 ready-P : Ready chipP
-unfolding shiftOf gatherFrom spelled groupOf spreadAll meaningOf mappedOf statusAllowed cr3Allowed cr4Allowed configurationsAllowed modeRegisterAllowed modeAllowed zeros mramRegisters psramRegisters mramVolatile psramVolatile mramIdentity psramIdentity validOf readSpan writeSpan placeIn shutMemory sectionShut protectedOf areaProtectedOf asleepFor refusedAt stopped decided commandClocks wiresFor addressClocks waitClocks bodyFor kindRead addressRead readingOf bytesIn dataBytes protectedAt putAt howMany allShut takeAll byteRead levelAt along judge unarmed latchMissing offered sizedFor roomFor sampled sentBytes factsOf storedBy outputOf over clockedOf transactOf
-ready-P = record { sized = refl; valid = refl; awake = refl }
+unfolding shiftOf gatherFrom spelled groupOf spreadAll meaningOf mappedOf statusAllowed cr3Allowed cr4Allowed configurationsAllowed modeRegisterAllowed modeAllowed zeros mramRegisters psramRegisters mramVolatile psramVolatile mramIdentity psramIdentity validOf inRange underwayValid factless readSpan writeSpan placeIn shutMemory sectionShut protectedOf areaProtectedOf asleepFor refusedAt stopped decided commandClocks wiresFor addressClocks waitClocks bodyFor kindRead addressRead readingOf bytesIn dataBytes protectedAt putAt howMany allShut takeAll byteRead levelAt along judge unarmed latchMissing offered sizedFor roomFor sampled sentBytes factsOf storedBy outputOf over clockedOf transactOf
+ready-P = record { sized = refl; valid = refl; idle = refl; awake = refl }
 
 enabling : (first : Bool) → Enabling (mram first) enables
-unfolding shiftOf gatherFrom spelled groupOf spreadAll meaningOf mappedOf statusAllowed cr3Allowed cr4Allowed configurationsAllowed modeRegisterAllowed modeAllowed zeros mramRegisters psramRegisters mramVolatile psramVolatile mramIdentity psramIdentity validOf readSpan writeSpan placeIn shutMemory sectionShut protectedOf areaProtectedOf asleepFor refusedAt stopped decided commandClocks wiresFor addressClocks waitClocks bodyFor kindRead addressRead readingOf bytesIn dataBytes protectedAt putAt howMany allShut takeAll byteRead levelAt along judge unarmed latchMissing offered sizedFor roomFor sampled sentBytes factsOf storedBy outputOf over clockedOf transactOf
+unfolding shiftOf gatherFrom spelled groupOf spreadAll meaningOf mappedOf statusAllowed cr3Allowed cr4Allowed configurationsAllowed modeRegisterAllowed modeAllowed zeros mramRegisters psramRegisters mramVolatile psramVolatile mramIdentity psramIdentity validOf inRange underwayValid factless readSpan writeSpan placeIn shutMemory sectionShut protectedOf areaProtectedOf asleepFor refusedAt stopped decided commandClocks wiresFor addressClocks waitClocks bodyFor kindRead addressRead readingOf bytesIn dataBytes protectedAt putAt howMany allShut takeAll byteRead levelAt along judge unarmed latchMissing offered sizedFor roomFor sampled sentBytes factsOf storedBy outputOf over clockedOf transactOf
 enabling true = record { kind = refl; done = refl }
 enabling false = record { kind = refl; done = refl }
 
 first-two : (first : Bool) → Every (Episode (mram first)) listM32
-unfolding aimed shiftOf gatherFrom spelled groupOf spreadAll meaningOf mappedOf statusAllowed cr3Allowed cr4Allowed configurationsAllowed modeRegisterAllowed modeAllowed zeros mramRegisters psramRegisters mramVolatile psramVolatile mramIdentity psramIdentity validOf readSpan writeSpan placeIn shutMemory sectionShut protectedOf areaProtectedOf asleepFor refusedAt stopped decided commandClocks wiresFor addressClocks waitClocks bodyFor kindRead addressRead readingOf bytesIn dataBytes protectedAt putAt howMany allShut takeAll byteRead levelAt along judge unarmed latchMissing offered sizedFor roomFor sampled sentBytes factsOf storedBy outputOf over clockedOf transactOf
+unfolding aimed shiftOf gatherFrom spelled groupOf spreadAll meaningOf mappedOf statusAllowed cr3Allowed cr4Allowed configurationsAllowed modeRegisterAllowed modeAllowed zeros mramRegisters psramRegisters mramVolatile psramVolatile mramIdentity psramIdentity validOf inRange underwayValid factless readSpan writeSpan placeIn shutMemory sectionShut protectedOf areaProtectedOf asleepFor refusedAt stopped decided commandClocks wiresFor addressClocks waitClocks bodyFor kindRead addressRead readingOf bytesIn dataBytes protectedAt putAt howMany allShut takeAll byteRead levelAt along judge unarmed latchMissing offered sizedFor roomFor sampled sentBytes factsOf storedBy outputOf over clockedOf transactOf
 first-two true = (record { family = refl; enable = enabling true; write = record { few = refl; levels = refl; way = Writes.Plain; kind = refl; reach = refl; some = lit≤ tt } }, (record { family = refl; enable = enabling true; write = record { few = refl; levels = refl; way = Writes.Plain; kind = refl; reach = refl; some = lit≤ tt } }, tt))
 first-two false = (record { family = refl; enable = enabling false; write = record { few = refl; levels = refl; way = Writes.Plain; kind = refl; reach = refl; some = lit≤ tt } }, (record { family = refl; enable = enabling false; write = record { few = refl; levels = refl; way = Writes.Plain; kind = refl; reach = refl; some = lit≤ tt } }, tt))
 
 the-third : Episode chipM beside
-unfolding aimed shiftOf gatherFrom spelled groupOf spreadAll meaningOf mappedOf statusAllowed cr3Allowed cr4Allowed configurationsAllowed modeRegisterAllowed modeAllowed zeros mramRegisters psramRegisters mramVolatile psramVolatile mramIdentity psramIdentity validOf readSpan writeSpan placeIn shutMemory sectionShut protectedOf areaProtectedOf asleepFor refusedAt stopped decided commandClocks wiresFor addressClocks waitClocks bodyFor kindRead addressRead readingOf bytesIn dataBytes protectedAt putAt howMany allShut takeAll byteRead levelAt along judge unarmed latchMissing offered sizedFor roomFor sampled sentBytes factsOf storedBy outputOf over clockedOf transactOf
+unfolding aimed shiftOf gatherFrom spelled groupOf spreadAll meaningOf mappedOf statusAllowed cr3Allowed cr4Allowed configurationsAllowed modeRegisterAllowed modeAllowed zeros mramRegisters psramRegisters mramVolatile psramVolatile mramIdentity psramIdentity validOf inRange underwayValid factless readSpan writeSpan placeIn shutMemory sectionShut protectedOf areaProtectedOf asleepFor refusedAt stopped decided commandClocks wiresFor addressClocks waitClocks bodyFor kindRead addressRead readingOf bytesIn dataBytes protectedAt putAt howMany allShut takeAll byteRead levelAt along judge unarmed latchMissing offered sizedFor roomFor sampled sentBytes factsOf storedBy outputOf over clockedOf transactOf
 the-third = record { family = refl; enable = enabling true; write = record { few = refl; levels = refl; way = Writes.Plain; kind = refl; reach = refl; some = lit≤ tt } }
 
 episodes-M : Every (Episode chipM) listM
 episodes-M = (first-two true .0, (first-two true .1 .0, (the-third, tt)))
 
 episodes-P : Every (Episode chipP) listP
-unfolding aimed shiftOf gatherFrom spelled groupOf spreadAll meaningOf mappedOf statusAllowed cr3Allowed cr4Allowed configurationsAllowed modeRegisterAllowed modeAllowed zeros mramRegisters psramRegisters mramVolatile psramVolatile mramIdentity psramIdentity validOf readSpan writeSpan placeIn shutMemory sectionShut protectedOf areaProtectedOf asleepFor refusedAt stopped decided commandClocks wiresFor addressClocks waitClocks bodyFor kindRead addressRead readingOf bytesIn dataBytes protectedAt putAt howMany allShut takeAll byteRead levelAt along judge unarmed latchMissing offered sizedFor roomFor sampled sentBytes factsOf storedBy outputOf over clockedOf transactOf
+unfolding aimed shiftOf gatherFrom spelled groupOf spreadAll meaningOf mappedOf statusAllowed cr3Allowed cr4Allowed configurationsAllowed modeRegisterAllowed modeAllowed zeros mramRegisters psramRegisters mramVolatile psramVolatile mramIdentity psramIdentity validOf inRange underwayValid factless readSpan writeSpan placeIn shutMemory sectionShut protectedOf areaProtectedOf asleepFor refusedAt stopped decided commandClocks wiresFor addressClocks waitClocks bodyFor kindRead addressRead readingOf bytesIn dataBytes protectedAt putAt howMany allShut takeAll byteRead levelAt along judge unarmed latchMissing offered sizedFor roomFor sampled sentBytes factsOf storedBy outputOf over clockedOf transactOf
 episodes-P = (
   record { family = refl; write = record { few = refl; levels = refl; way = Writes.Plain; kind = refl; reach = refl; some = lit≤ tt } },
   (
@@ -144,11 +145,11 @@ episodes-P = (
 )
 
 apart-M : (allDisjoint (settingOf (chipM .device)) listM ≡ true) × (allDisjoint (settingOf (chipM32 .device)) listM32 ≡ true)
-unfolding aimed placesFrom shiftOf gatherFrom spelled groupOf spreadAll meaningOf mappedOf statusAllowed cr3Allowed cr4Allowed configurationsAllowed modeRegisterAllowed modeAllowed zeros mramRegisters psramRegisters mramVolatile psramVolatile mramIdentity psramIdentity validOf readSpan writeSpan placeIn shutMemory sectionShut protectedOf areaProtectedOf asleepFor refusedAt stopped decided commandClocks wiresFor addressClocks waitClocks bodyFor kindRead addressRead readingOf bytesIn dataBytes protectedAt putAt howMany allShut takeAll byteRead levelAt along judge unarmed latchMissing offered sizedFor roomFor sampled sentBytes factsOf storedBy outputOf over clockedOf transactOf
+unfolding aimed placesFrom shiftOf gatherFrom spelled groupOf spreadAll meaningOf mappedOf statusAllowed cr3Allowed cr4Allowed configurationsAllowed modeRegisterAllowed modeAllowed zeros mramRegisters psramRegisters mramVolatile psramVolatile mramIdentity psramIdentity validOf inRange underwayValid factless readSpan writeSpan placeIn shutMemory sectionShut protectedOf areaProtectedOf asleepFor refusedAt stopped decided commandClocks wiresFor addressClocks waitClocks bodyFor kindRead addressRead readingOf bytesIn dataBytes protectedAt putAt howMany allShut takeAll byteRead levelAt along judge unarmed latchMissing offered sizedFor roomFor sampled sentBytes factsOf storedBy outputOf over clockedOf transactOf
 apart-M = (refl, refl)
 
 apart-P : allDisjoint (settingOf (chipP .device)) listP ≡ true
-unfolding aimed placesFrom shiftOf gatherFrom spelled groupOf spreadAll meaningOf mappedOf statusAllowed cr3Allowed cr4Allowed configurationsAllowed modeRegisterAllowed modeAllowed zeros mramRegisters psramRegisters mramVolatile psramVolatile mramIdentity psramIdentity validOf readSpan writeSpan placeIn shutMemory sectionShut protectedOf areaProtectedOf asleepFor refusedAt stopped decided commandClocks wiresFor addressClocks waitClocks bodyFor kindRead addressRead readingOf bytesIn dataBytes protectedAt putAt howMany allShut takeAll byteRead levelAt along judge unarmed latchMissing offered sizedFor roomFor sampled sentBytes factsOf storedBy outputOf over clockedOf transactOf
+unfolding aimed placesFrom shiftOf gatherFrom spelled groupOf spreadAll meaningOf mappedOf statusAllowed cr3Allowed cr4Allowed configurationsAllowed modeRegisterAllowed modeAllowed zeros mramRegisters psramRegisters mramVolatile psramVolatile mramIdentity psramIdentity validOf inRange underwayValid factless readSpan writeSpan placeIn shutMemory sectionShut protectedOf areaProtectedOf asleepFor refusedAt stopped decided commandClocks wiresFor addressClocks waitClocks bodyFor kindRead addressRead readingOf bytesIn dataBytes protectedAt putAt howMany allShut takeAll byteRead levelAt along judge unarmed latchMissing offered sizedFor roomFor sampled sentBytes factsOf storedBy outputOf over clockedOf transactOf
 apart-P = refl
 
 -- SO DEMAND 3 SAYS SOMETHING OF THEM: for part M the list turned round, in longer buffers, for parts P and M32 the two exchanged
@@ -197,5 +198,5 @@ examples =
     ∷ []
 
 pub examples-hold : T (all examples)
-unfolding examples aimed placesFrom afterCalls replies shiftOf gatherFrom spelled groupOf spreadAll meaningOf mappedOf statusAllowed cr3Allowed cr4Allowed configurationsAllowed modeRegisterAllowed modeAllowed zeros mramRegisters psramRegisters mramVolatile psramVolatile mramIdentity psramIdentity validOf readSpan writeSpan placeIn shutMemory sectionShut protectedOf areaProtectedOf asleepFor refusedAt stopped decided commandClocks wiresFor addressClocks waitClocks bodyFor kindRead addressRead readingOf bytesIn dataBytes protectedAt putAt howMany allShut takeAll byteRead levelAt along judge unarmed latchMissing offered sizedFor roomFor sampled sentBytes factsOf storedBy outputOf over clockedOf transactOf
+unfolding examples aimed placesFrom afterCalls replies shiftOf gatherFrom spelled groupOf spreadAll meaningOf mappedOf statusAllowed cr3Allowed cr4Allowed configurationsAllowed modeRegisterAllowed modeAllowed zeros mramRegisters psramRegisters mramVolatile psramVolatile mramIdentity psramIdentity validOf inRange underwayValid factless readSpan writeSpan placeIn shutMemory sectionShut protectedOf areaProtectedOf asleepFor refusedAt stopped decided commandClocks wiresFor addressClocks waitClocks bodyFor kindRead addressRead readingOf bytesIn dataBytes protectedAt putAt howMany allShut takeAll byteRead levelAt along judge unarmed latchMissing offered sizedFor roomFor sampled sentBytes factsOf storedBy outputOf over clockedOf transactOf
 examples-hold = tt

@@ -23,7 +23,7 @@ use Rattle.record.specs.Devices.{settingOf, aimOf}
 use Rattle.changes.specs.Latches.{latchNeeded, latchMissing}
 use Rattle.changes.specs.Changes.{settledOf}
 use Rattle.record.specs.Answers.{isDone, refuses}
-use Rattle.state_check.specs.States.{validOf}
+use Rattle.paper.specs.Underway.{validOf}
 use Rattle.paper.specs.InForce.{decided, bodyFor}
 use Rattle.paper.specs.Reading.{many, Reading, readingOf}
 use Rattle.paper.specs.Storing.{Lent, storeByte}
@@ -79,7 +79,7 @@ module _ (d : Device) (l : Lent) (x : Call) (done : transactOf d l (x .samples) 
   unfolding clockedOf judge factsOf
   again =
       let c = no-row-holds in
-      ap (λ (w : World). w .answer) (when-accepted d′ l′ (x .samples) (x .room) (record { sized = sized; room = room; levels = passed .levels; valid = valid }))
+      ap (λ (w : World). w .answer) (when-accepted d′ l′ (x .samples) (x .room) (record { sized = sized; room = room; levels = passed .levels; valid = valid; turn = passed .turn }))
       ∙ done-when-clear (tableFor d′ (factsOf s p))
       (record {
         cutCommand = c .cutCommand;
