@@ -5,6 +5,7 @@ use bench_columns::five;
 use record::Answer;
 use record::Device;
 use record::Outcome;
+use record::Underway;
 use record::answer_number;
 use record::is_refusal;
 use text::put;
@@ -72,6 +73,24 @@ pub fn state_columns(text: &mut [u8], at: usize, d: Device) -> usize {
     let b = column(text, a, v.mode as u64);
     let c = flags(text, b, d);
     registers(text, c, d)
+}
+
+// What has come of the open transaction: opcode and address, the bits of what is not whole, the bytes of a register write.
+fn arrived(text: &mut [u8], at: usize, u: Underway) -> usize {
+    let value = u.value;
+    let a = column(text, at, u.opcode as u64);
+    let b = column(text, a, u.address as u64);
+    let c = column(text, b, u.number as u64);
+    eight_column(text, c, value)
+}
+
+// The open transaction: whether there is one, its clocks, and what has come of it.
+pub fn underway_columns(text: &mut [u8], at: usize, u: Underway) -> usize {
+    let clocks = u.clocks;
+    let a = put(text, at, b' ');
+    let b = flag(text, a, u.selected);
+    let c = column(text, b, clocks.in_clocks() as u64);
+    arrived(text, c, u)
 }
 
 // The name of the part, by its number in the list.

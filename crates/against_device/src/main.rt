@@ -1,9 +1,13 @@
 // Probes of the device, one after the other on standard input, and for each one line with its answer, its counts, the whole
 // record that it left, and digests of memory, area and output. The second program prints the same.
 use against_input::is_taken;
+use against_probes::Left;
 use against_probes::Probe;
 use against_probes::called;
+use against_probes::is_astray;
 use against_probes::is_call;
+use against_probes::left_by;
+use against_probes::no_probe;
 use against_probes::probe_of;
 use against_probes::put_line;
 use against_probes::take_head;
@@ -16,9 +20,25 @@ use parts::LARGEST_MEMORY;
 // Room for the output of any probe: a generated one lends a few bytes more than 65,536.
 const OUTPUT: usize = 131072;
 
+// The page so far, and what the next probe may go on from.
+struct Sequence {
+    page: Printed,
+    left: Left,
+}
+
+// The input ends too early, or asks for what there is not.
+fn ended(t: Sequence, text: &mut [u8]) -> Sequence {
+    let page = t.page;
+    let left = t.left;
+    Sequence {
+        page: cut(text, page.place),
+        left,
+    }
+}
+
 // Probe `k` with its samples, on what has the lengths that it asks for.
 fn run(
-    s: Printed,
+    t: Sequence,
     k: u64,
     p: Probe,
     memory: &mut [u8],
@@ -26,18 +46,23 @@ fn run(
     samples: &mut [u8],
     output: &mut [u8],
     text: &mut [u8],
-) -> Printed {
+) -> Sequence {
     if !is_taken(samples) {
-        return cut(text, s.place);
+        return ended(t, text);
     }
-    let r = called(p, memory, area, samples, output);
-    let place = put_line(text, s.place, k, r, memory, area, output);
-    going(text, place)
+    let page = t.page;
+    let left = t.left;
+    let r = called(p, left, memory, area, samples, output);
+    let place = put_line(text, page.place, k, r, memory, area, output);
+    Sequence {
+        page: going(text, place),
+        left: left_by(p, left, r),
+    }
 }
 
 // The same with so much of samples and output as the probe says, where there is so much.
 fn on_wires(
-    s: Printed,
+    t: Sequence,
     k: u64,
     p: Probe,
     memory: &mut [u8],
@@ -45,18 +70,18 @@ fn on_wires(
     samples: &mut [u8],
     output: &mut [u8],
     text: &mut [u8],
-) -> Printed {
+) -> Sequence {
     let l = p.lengths;
     let long = l.samples;
     let room = l.output;
     if samples.len() < long {
-        return cut(text, s.place);
+        return ended(t, text);
     }
     if output.len() < room {
-        return cut(text, s.place);
+        return ended(t, text);
     }
     run(
-        s,
+        t,
         k,
         p,
         memory,
@@ -69,7 +94,7 @@ fn on_wires(
 
 // The same of memory and area.
 fn on_stores(
-    s: Printed,
+    t: Sequence,
     k: u64,
     p: Probe,
     memory: &mut [u8],
@@ -77,18 +102,18 @@ fn on_stores(
     samples: &mut [u8],
     output: &mut [u8],
     text: &mut [u8],
-) -> Printed {
+) -> Sequence {
     let l = p.lengths;
     let size = l.memory;
     let edge = l.area;
     if memory.len() < size {
-        return cut(text, s.place);
+        return ended(t, text);
     }
     if area.len() < edge {
-        return cut(text, s.place);
+        return ended(t, text);
     }
     on_wires(
-        s,
+        t,
         k,
         p,
         &mut memory[..size],
@@ -100,37 +125,48 @@ fn on_stores(
 }
 
 fn turn(
-    s: Printed,
+    t: Sequence,
     k: u64,
     memory: &mut [u8],
     area: &mut [u8],
     samples: &mut [u8],
     output: &mut [u8],
     text: &mut [u8],
-) -> Printed {
+) -> Sequence {
     let h = take_head();
     let bytes = h.bytes;
     let p = probe_of(bytes);
+    let page = t.page;
+    let left = t.left;
     if h.last {
-        return stopped(s.place);
+        return Sequence {
+            page: stopped(page.place),
+            left,
+        };
     }
     if !h.whole {
-        return cut(text, s.place);
+        return ended(t, text);
     }
     if !is_call(p.call) {
-        return cut(text, s.place);
+        return ended(t, text);
     }
-    on_stores(s, k, p, memory, area, samples, output, text)
+    if is_astray(p, left) {
+        return ended(t, text);
+    }
+    on_stores(t, k, p, memory, area, samples, output, text)
 }
 
 fn all(memory: &mut [u8], area: &mut [u8], samples: &mut [u8], output: &mut [u8], text: &mut [u8]) {
-    let mut s = Printed { place: 0, go: true };
+    let mut t = Sequence {
+        page: Printed { place: 0, go: true },
+        left: no_probe(),
+    };
     let mut k = 0;
-    while k < 1000000 && s.go {
+    while k < 1000000 && t.page.go {
         k += 1;
-        s = turn(s, k, memory, area, samples, output, text);
+        t = turn(t, k, memory, area, samples, output, text);
     }
-    text::flush(text, s.place);
+    text::flush(text, t.page.place);
 }
 
 // Memory and output come by value, since an argument's length is known by its type.

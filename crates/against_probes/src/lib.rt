@@ -1,7 +1,9 @@
-// A probe of the device: read off its 64 bytes, called on what is filled for it, and the line with all that it left.
+// A probe of the device: read off its 96 bytes, called on what is filled for it or on what the probe before it left, and the line
+// with all that it left itself.
 use against_columns::call_columns;
 use against_columns::eight_column;
 use against_columns::state_columns;
+use against_columns::underway_columns;
 use against_input::number_of;
 use bench_columns::column;
 use bench_columns::digest_column;
@@ -10,14 +12,16 @@ use record::Identities;
 use record::Make;
 use record::Outcome;
 use record::Registers;
+use record::Underway;
 use record::Volatile;
 use text::put;
+use units::Clocks;
 
-// The 64 bytes before a probe's samples, or that the input ends before them or within them.
+// The 96 bytes before a probe's samples, or that the input ends before them or within them.
 pub struct Head {
     pub last: bool,
     pub whole: bool,
-    pub bytes: [u8; 64],
+    pub bytes: [u8; 96],
 }
 
 // The lengths of what is lent.
@@ -28,12 +32,22 @@ pub struct Lengths {
     pub output: usize,
 }
 
-// A call of the device: 1 is a transaction, 2 a power cycle. `seed` is where the contents of what is lent begin.
+// A call of the device: 1 is a transaction, 2 a power cycle, 3 opens a transaction, 4 feeds it, 5 closes it. `on` is 1 where the
+// probe goes on from the one before it. `seed` is where the contents of what is lent begin.
 pub struct Probe {
     pub call: u8,
+    pub on: u8,
     pub device: Device,
     pub lengths: Lengths,
     pub seed: u8,
+}
+
+// What a probe leaves to the next one: the record, and how much of memory and area the first of its sequence filled.
+pub struct Left {
+    pub any: bool,
+    pub device: Device,
+    pub memory: usize,
+    pub area: usize,
 }
 
 // What is filled before a call.
@@ -44,16 +58,16 @@ enum Lent {
 }
 
 pub fn take_head() -> Head {
-    let mut bytes = [0u8; 64];
+    let mut bytes = [0u8; 96];
     let n = io::read_full(0, &mut bytes);
     Head {
         last: n == 0,
-        whole: n == 64,
+        whole: n == 96,
         bytes,
     }
 }
 
-fn registers_of(h: [u8; 64]) -> Registers {
+fn registers_of(h: [u8; 96]) -> Registers {
     Registers {
         status: h[8],
         protection: h[9],
@@ -65,7 +79,7 @@ fn registers_of(h: [u8; 64]) -> Registers {
     }
 }
 
-fn volatile_of(h: [u8; 64]) -> Volatile {
+fn volatile_of(h: [u8; 96]) -> Volatile {
     Volatile {
         mode: h[3],
         latch: h[4] != 0,
@@ -75,7 +89,7 @@ fn volatile_of(h: [u8; 64]) -> Volatile {
     }
 }
 
-fn identities_of(h: [u8; 64]) -> Identities {
+fn identities_of(h: [u8; 96]) -> Identities {
     Identities {
         device: [h[16], h[17], h[18], h[19], h[20], h[21], h[22], h[23]],
         unique: [h[24], h[25], h[26], h[27], h[28], h[29], h[30], h[31]],
@@ -83,7 +97,18 @@ fn identities_of(h: [u8; 64]) -> Identities {
     }
 }
 
-fn lengths_of(h: [u8; 64]) -> Lengths {
+fn underway_of(h: [u8; 96]) -> Underway {
+    Underway {
+        selected: h[64] != 0,
+        clocks: Clocks::stated(number_of(h[68], h[69], h[70], h[71]) as usize),
+        opcode: h[65],
+        address: number_of(h[72], h[73], h[74], h[75]),
+        number: number_of(h[76], h[77], h[78], h[79]),
+        value: [h[80], h[81], h[82], h[83], h[84], h[85], h[86], h[87]],
+    }
+}
+
+fn lengths_of(h: [u8; 96]) -> Lengths {
     Lengths {
         memory: number_of(h[40], h[41], h[42], h[43]) as usize,
         area: number_of(h[44], h[45], h[46], h[47]) as usize,
@@ -93,7 +118,7 @@ fn lengths_of(h: [u8; 64]) -> Lengths {
 }
 
 // Any record at all: none of its bytes is looked at.
-fn device_of(h: [u8; 64]) -> Device {
+fn device_of(h: [u8; 96]) -> Device {
     Device {
         make: Make {
             part: h[1],
@@ -102,12 +127,14 @@ fn device_of(h: [u8; 64]) -> Device {
         registers: registers_of(h),
         volatile: volatile_of(h),
         identity: identities_of(h),
+        underway: underway_of(h),
     }
 }
 
-pub fn probe_of(h: [u8; 64]) -> Probe {
+pub fn probe_of(h: [u8; 96]) -> Probe {
     Probe {
         call: h[0],
+        on: h[57],
         device: device_of(h),
         lengths: lengths_of(h),
         seed: h[56],
@@ -115,7 +142,59 @@ pub fn probe_of(h: [u8; 64]) -> Probe {
 }
 
 pub fn is_call(call: u8) -> bool {
-    call == 1 || call == 2
+    1 <= call && call <= 5
+}
+
+// Nothing to go on from.
+pub fn no_probe() -> Left {
+    Left {
+        any: false,
+        device: device_of([0u8; 96]),
+        memory: 0,
+        area: 0,
+    }
+}
+
+// Whether a probe goes on that has nothing to go on from, or that would be lent more than there is.
+pub fn is_astray(p: Probe, left: Left) -> bool {
+    let l = p.lengths;
+    if p.on == 0 {
+        return false;
+    }
+    if p.on != 1 || !left.any {
+        return true;
+    }
+    left.memory < l.memory || left.area < l.area
+}
+
+// The record that a probe begins with: its own, or the one that was left.
+fn record_of(p: Probe, left: Left) -> Device {
+    let own = p.device;
+    let device = left.device;
+    if p.on == 1 {
+        return device;
+    }
+    own
+}
+
+// What a probe leaves with its call.
+pub fn left_by(p: Probe, left: Left, r: Outcome) -> Left {
+    let device = r.device;
+    let l = p.lengths;
+    if p.on == 1 {
+        return Left {
+            any: true,
+            device,
+            memory: left.memory,
+            area: left.area,
+        };
+    }
+    Left {
+        any: true,
+        device,
+        memory: l.memory,
+        area: l.area,
+    }
 }
 
 // Byte i of what is lent. The three differ from each other, and memory from one 256 bytes to the next.
@@ -137,16 +216,20 @@ fn fill(what: Lent, seed: u8, buffer: &mut [u8]) {
 
 fn call(
     p: Probe,
+    d: Device,
     memory: &mut [u8],
     area: &mut [u8],
     samples: &[u8],
     output: &mut [u8],
 ) -> Outcome {
-    let d = p.device;
-    if p.call == 1 {
-        return device::transact(d, memory, area, samples, output);
+    let number = p.call;
+    match number {
+        1 => device::transact(d, memory, area, samples, output),
+        2 => device::power_cycle(d, memory, area),
+        3 => device::open(d, memory, area),
+        4 => device::feed(d, memory, area, samples, output),
+        _ => device::close(d, memory, area),
     }
-    device::power_cycle(d, memory, area)
 }
 
 // The whole record, also with a part that there is not.
@@ -155,11 +238,13 @@ fn record_columns(text: &mut [u8], at: usize, d: Device) -> usize {
     let identity = i.device;
     let unique = i.unique;
     let serial = i.serial;
+    let underway = d.underway;
     let a = column(text, at, d.make.part as u64);
     let b = state_columns(text, a, d);
     let c = eight_column(text, b, identity);
     let e = eight_column(text, c, unique);
-    eight_column(text, e, serial)
+    let f = eight_column(text, e, serial);
+    underway_columns(text, f, underway)
 }
 
 pub fn put_line(
@@ -180,17 +265,26 @@ pub fn put_line(
     put(text, f, b'\n')
 }
 
-// A call on what is filled.
+// Memory and area of a probe that does not go on.
+fn fill_stores(p: Probe, memory: &mut [u8], area: &mut [u8]) {
+    let seed = p.seed;
+    if p.on != 1 {
+        fill(Lent::Memory, seed, memory);
+        fill(Lent::Area, seed, area);
+    }
+}
+
+// A call on what is filled, or on what was left.
 pub fn called(
     p: Probe,
+    left: Left,
     memory: &mut [u8],
     area: &mut [u8],
     samples: &[u8],
     output: &mut [u8],
 ) -> Outcome {
-    let seed = p.seed;
-    fill(Lent::Memory, seed, memory);
-    fill(Lent::Area, seed, area);
-    fill(Lent::Output, seed, output);
-    call(p, memory, area, samples, output)
+    let d = record_of(p, left);
+    fill_stores(p, memory, area);
+    fill(Lent::Output, p.seed, output);
+    call(p, d, memory, area, samples, output)
 }

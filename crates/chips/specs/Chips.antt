@@ -4,6 +4,8 @@
 --   2 status  3 area protection  4 to 7 configuration 1 to 4  8 mode register
 --   9 bus mode  10 latch  11 arming  12 sleep  13 toggle
 --   14 to 21 device identity  22 to 29 unique number  30 to 37 serial number
+--
+-- An open transaction has no place among them: the bytes stand for a record with none open.
 use Prim.Native.Nat.{ℕ, _+_}
 use mathlib.Core.Bool.{Bool, true, false, _&&_}
 use mathlib.Core.List.{List, [], _∷_, _++_}
@@ -13,6 +15,7 @@ use Rattle.record.specs.declared.devices.Registers.{Registers}
 use Rattle.record.specs.declared.devices.Volatile.{Volatile}
 use Rattle.record.specs.declared.devices.Identities.{Identities}
 use Rattle.record.specs.declared.devices.Device.{Device}
+use Rattle.record.specs.Fields.{noUnderway}
 
 abbrev pub chipSize : ℕ
 chipSize = 38
@@ -61,7 +64,8 @@ abbrev pub identitiesAt : List ℕ → Identities
 identitiesAt bs = record { device = eightAt 14 bs; unique = eightAt 22 bs; serial = eightAt 30 bs }
 
 unfoldable pub chipOf : List ℕ → Device
-chipOf bs = record { make = record { part = getD bs 0 0; n = getD bs 1 0 }; registers = registersAt bs; volatile = volatileAt bs; identity = identitiesAt bs }
+chipOf bs =
+    record { make = record { part = getD bs 0 0; n = getD bs 1 0 }; registers = registersAt bs; volatile = volatileAt bs; identity = identitiesAt bs; underway = noUnderway }
 
 -- ---- and from a record to bytes
 abbrev pub fieldsOf : Device → List ℕ

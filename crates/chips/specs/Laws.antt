@@ -17,7 +17,9 @@ use Rattle.buffers.specs.Laws.{puts-append, puts-front}
 use Rattle.counts.specs.declared.Counts.{Counts}
 use Rattle.record.specs.declared.devices.Volatile.{Volatile}
 use Rattle.record.specs.declared.devices.Identities.{Identities}
+use Rattle.record.specs.declared.devices.Underway.{Underway}
 use Rattle.record.specs.declared.devices.Device.{Device}
+use Rattle.record.specs.Fields.{noUnderway}
 use Rattle.chips.specs.Chips.{chipSize, bitOf, isFlag, isChip, eightAt, volatileAt, identitiesAt, chipOf, fieldsOf, bytesOf}
 use Rattle.chips.specs.Words.{countsOf}
 
@@ -120,17 +122,17 @@ module _ (d : Device) (e : Eights (d .identity)) where
       eight-is (bytesOf d) 30 (rw bytes-long (lit≤ tt)) ∙ ap (take 8) (behind (i .device) (i .unique ++ i .serial) 8 (e .device) ∙ behind (i .unique) (i .serial) 0 (e .unique))
       ∙ take-all 8 (i .serial) (le-of-eq (e .serial))
 
-  -- READ BACK: the record whose bytes were written is read again
-  pub read-back : chipOf (bytesOf d) ≡ d
+  -- READ BACK: the record whose bytes were written is read again, where it has no transaction open
+  pub read-back : d .underway ≡ noUnderway → chipOf (bytesOf d) ≡ d
   unfolding chipOf bytesOf
-  read-back =
+  read-back none =
       let v = d .volatile in
       let same : volatileAt (bytesOf d) ≡ v = rw (flag-back (v .latch), flag-back (v .armed), flag-back (v .asleep), flag-back (v .toggle)) in
       let ids : identitiesAt (bytesOf d) ≡ i = rw (device-back, unique-back, serial-back) in
-      ap (λ (z : Volatile). with z (identitiesAt (bytesOf d))) same ∙ ap (with v) ids
+      ap (λ (z : Volatile). with z (identitiesAt (bytesOf d)) noUnderway) same ∙ ap (λ (j : Identities). with v j noUnderway) ids ∙ ap (with v i) (sym none)
     where
-      with : Volatile → Identities → Device
-      with z j = record { make = d .make; registers = d .registers; volatile = z; identity = j }
+      with : Volatile → Identities → Underway → Device
+      with z j u = record { make = d .make; registers = d .registers; volatile = z; identity = j; underway = u }
 
   -- and its bytes are a chip's
   bytes-flags : (isFlag 10 (bytesOf d) && (isFlag 11 (bytesOf d) && (isFlag 12 (bytesOf d) && isFlag 13 (bytesOf d)))) ≡ true

@@ -12,6 +12,7 @@ use record::Device;
 use record::Identities;
 use record::Make;
 use record::Registers;
+use record::Underway;
 use record::Volatile;
 
 // The bytes of a chip, and the words of its counts and of a number.
@@ -100,7 +101,7 @@ fn identities_at(chip: &[u8]) -> Identities
     }
 }
 
-// The record that the bytes stand for.
+// The record that the bytes stand for. They have no room for an open transaction, so none is open.
 pub fn chip_of(chip: &[u8]) -> Device
     requires { ⌜ length (now chip) ≡ chipSize ⌝ }
     ensures { λ r. ⌜ r ≡ chipOf (now (chip .entry)) ⌝ }
@@ -108,6 +109,7 @@ pub fn chip_of(chip: &[u8]) -> Device
     let registers = registers_at(chip);
     let volatile = volatile_at(chip);
     let identity = identities_at(chip);
+    let underway = Underway::none();
     Device {
         make: Make {
             part: chip[0],
@@ -116,6 +118,7 @@ pub fn chip_of(chip: &[u8]) -> Device
         registers,
         volatile,
         identity,
+        underway,
     }
 }
 
@@ -165,7 +168,7 @@ fn put_eight(chip: &mut [u8], at: usize, eight: [u8; 8]) -> usize
     put_all(chip, at, &eight)
 }
 
-// A record put into a buffer that has a chip's length.
+// A record put into a buffer that has a chip's length, but for a transaction that is open.
 pub fn put_chip(d: Device, chip: &mut [u8])
     requires { ⌜ length (now chip) ≡ chipSize ⌝ }
     ensures { λ _. ⌜ now (chip .exit) ≡ bytesOf d ⌝ }

@@ -24,7 +24,7 @@ pub fn put_named(page: &mut [u8], at: usize, a: Answer) -> usize {
         page,
         b,
         b" DONE: | SIZE: | SAMPLE: | STATE: | SHORT: | UNKNOWN: | ASLEEP: | ADDRESS: | LATCH: \
-        | PROTECTED: | RESERVED: | LONG: | UNARMED: ",
+        | PROTECTED: | RESERVED: | LONG: | UNARMED: | TURN: ",
         n as usize,
     )
 }
@@ -169,7 +169,8 @@ pub fn put_rule(page: &mut [u8], at: usize, v: View, samples: &[u8], a: Answer) 
         |every whole data byte is for a protected place, so none is stored.\n\
         |a register must not have the value that came, and none is written.\n\
         |clocks came after the last one that the command takes.\n\
-        |the transaction before was no reset enable, 66, that was answered 0.\n",
+        |the transaction before was no reset enable, 66, that was answered 0.\n\
+        |the call came out of turn: a transaction is open, or none is.\n",
         answer_number(a) as usize,
     )
 }

@@ -1,6 +1,6 @@
 // Long transactions and gatherings, over and over on the same buffers, so that their time can be taken from outside:
-// `pace read 4 65535 200 10` clocks a read of 65,535 clocks on four wires 200 times on a chip of n = 10, `pace gather 4
-// 65535 200` gathers so many driven samples. One line tells the clocks of all calls that were answered 0, and digests of what
+// `pace read 4 65535 200 10` clocks a read of 65,535 clocks on four wires 200 times on a chip of n = 10, `pace read 4 65535 200 10
+// 16` does so in chunks of 16 clocks, and `pace gather 4 65535 200` gathers so many driven samples. One line tells the clocks of all calls that were answered 0, and digests of what
 // the last one left. The second program prints the same.
 use bench_columns::digest_column;
 use digits::number_in;
@@ -61,6 +61,7 @@ fn hear(word: &mut [u8]) -> Asked {
         clocks: number_at(3, word, most_clocks()),
         repeats: number_at(4, word, 1000000),
         n: (number_at(5, word, PartM::MOST as u32) % 256) as u8,
+        chunk: number_at(6, word, most_clocks()) as usize,
     }
 }
 
@@ -104,6 +105,7 @@ fn gather(a: Asked, driven: &mut [u8], bytes: &mut [u8]) {
 // The bursts on a chip whose area is lent as its part has it.
 fn clock_area(
     d: Device,
+    chunk: usize,
     repeats: u32,
     memory: &mut [u8],
     samples: &[u8],
@@ -114,7 +116,15 @@ fn clock_area(
     if LARGEST_AREA < edge {
         return 0;
     }
-    clocked_all(d, repeats, memory, &mut area[..edge], samples, output)
+    clocked_all(
+        d,
+        chunk,
+        repeats,
+        memory,
+        &mut area[..edge],
+        samples,
+        output,
+    )
 }
 
 fn clock(a: Asked, memory: &mut [u8], samples: &mut [u8], output: &mut [u8]) {
@@ -122,7 +132,7 @@ fn clock(a: Asked, memory: &mut [u8], samples: &mut [u8], output: &mut [u8]) {
     let mut written = io::large_buffer();
     fill(memory, 0);
     build(a, d.make.part, &mut written, samples);
-    let done = clock_area(d, a.repeats, memory, samples, output);
+    let done = clock_area(d, a.chunk, a.repeats, memory, samples, output);
     tell(total(done, a.clocks), output, memory);
 }
 
@@ -165,7 +175,7 @@ fn pace(memory: &mut [u8], samples: &mut [u8], output: &mut [u8]) {
     if !is_whole(a) {
         io::write_all(
             2,
-            b"pace read|write|gather WIRES CLOCKS REPEATS [N]: 1, 2 or 4 wires, 64 to 65535 clocks, n 10 to 21\n",
+            b"pace read|write|gather WIRES CLOCKS REPEATS [N [CHUNK]]: 1, 2 or 4 wires, 64 to 65535 clocks, n 10 to 21\n",
         );
         return;
     }

@@ -1,4 +1,5 @@
 // The calls that are measured: the chip, the command and its samples, and the same call over and over.
+ghost use Prim.Native.Nat.{_<_, _≤_};
 use host_order::Order;
 use parts::Part;
 use parts::PartM;
@@ -12,13 +13,14 @@ use units::Clocks;
 use units::bytes_to_clocks;
 use units::clocks_to_bytes;
 
-// What is asked: 1 reads, 2 writes, 3 gathers, and 0 is none of them.
+// What is asked: 1 reads, 2 writes, 3 gathers, and 0 is none of them. `chunk` is the clocks of a chunk, and 0 for one call.
 pub struct Asked {
     pub what: u8,
     pub wires: u8,
     pub clocks: u32,
     pub repeats: u32,
     pub n: u8,
+    pub chunk: usize,
 }
 
 // A byte as it is, or as a level that the device drives on so many wires.
@@ -117,14 +119,92 @@ pub fn build(a: Asked, part: u8, written: &mut [u8], samples: &mut [u8]) {
     host::build(order(a, part), &written[..n], samples);
 }
 
-// One transaction, and whether it was answered 0.
-fn clocked(
+// Where the chunk that begins at `at` ends.
+fn end_of(at: usize, chunk: usize, all: usize) -> usize
+    requires { ⌜ at < all ⌝ }
+    ensures { λ r. ⌜ at < r ⌝ }
+    ensures { λ r. ⌜ r ≤ all ⌝ }
+{
+    if chunk == 0 {
+        return all;
+    }
+    if all - at <= chunk {
+        return all;
+    }
+    at + chunk
+}
+
+// One chunk, and the record that it leaves.
+fn fed_part(
     d: Device,
+    from: usize,
+    to: usize,
+    memory: &mut [u8],
+    area: &mut [u8],
+    samples: &[u8],
+    output: &mut [u8],
+) -> Device {
+    if to < from {
+        return d;
+    }
+    if samples.len() < to {
+        return d;
+    }
+    if output.len() < to {
+        return d;
+    }
+    let r = device::feed(d, memory, area, &samples[from..to], &mut output[from..to]);
+    r.device
+}
+
+// All chunks of an open transaction.
+fn fed(
+    d: Device,
+    chunk: usize,
+    memory: &mut [u8],
+    area: &mut [u8],
+    samples: &[u8],
+    output: &mut [u8],
+) -> Device {
+    let mut e = d;
+    let mut at: usize = 0;
+    while at < samples.len() {
+        let to = end_of(at, chunk, samples.len());
+        e = fed_part(e, at, to, memory, area, samples, output);
+        at = to;
+    }
+    e
+}
+
+// One transaction in chunks, and whether it was answered 0.
+fn chunked(
+    d: Device,
+    chunk: usize,
     memory: &mut [u8],
     area: &mut [u8],
     samples: &[u8],
     output: &mut [u8],
 ) -> bool {
+    let r = device::open(d, memory, area);
+    let opened = r.device;
+    let e = fed(opened, chunk, memory, area, samples, output);
+    let c = device::close(e, memory, area);
+    let answer = c.answer;
+    is_done(answer)
+}
+
+// One transaction, in chunks of so many clocks or, where these are 0, in one call; and whether it was answered 0.
+fn clocked(
+    d: Device,
+    chunk: usize,
+    memory: &mut [u8],
+    area: &mut [u8],
+    samples: &[u8],
+    output: &mut [u8],
+) -> bool {
+    if chunk != 0 {
+        return chunked(d, chunk, memory, area, samples, output);
+    }
     let r = device::transact(d, memory, area, samples, output);
     let answer = r.answer;
     is_done(answer)
@@ -133,6 +213,7 @@ fn clocked(
 // So many of the same, from the same record. Returns how many were answered 0.
 pub fn clocked_all(
     d: Device,
+    chunk: usize,
     repeats: u32,
     memory: &mut [u8],
     area: &mut [u8],
@@ -143,7 +224,7 @@ pub fn clocked_all(
     let mut k: u32 = 0;
     while k < repeats {
         k += 1;
-        if !clocked(d, memory, area, samples, output) {
+        if !clocked(d, chunk, memory, area, samples, output) {
             continue;
         }
         done += 1;

@@ -16,10 +16,10 @@ record Same (m₀ a₀ s₀ o₀ t₀ m a s o t : List ℕ) : Type 0 where
   text : length t ≡ length t₀
 
 abbrev Inv-loop : tie.InvT-loop
-Inv-loop memory₀ area₀ samples₀ output₀ text₀ s₀ k₀ memory area samples output text s k = Same memory₀ area₀ samples₀ output₀ text₀ memory area samples output text
+Inv-loop memory₀ area₀ samples₀ output₀ text₀ t₀ k₀ memory area samples output text t k = Same memory₀ area₀ samples₀ output₀ text₀ memory area samples output text
 
 abbrev μ-loop : tie.MeasureT-loop
-μ-loop memory₀ area₀ samples₀ output₀ text₀ s₀ k₀ memory area samples output text s k = 1000000 - k
+μ-loop memory₀ area₀ samples₀ output₀ text₀ t₀ k₀ memory area samples output text t k = 1000000 - k
 
 pub all-spec : {M : Type 1} → statement M
 all-spec =
@@ -27,6 +27,8 @@ all-spec =
     (tie.spec
     Inv-loop
     μ-loop
+    -- no-probe-requires
+    (λ c κs. tt)
     -- loop-holds
     (λ c. record { memory = refl; area = refl; samples = refl; output = refl; text = refl })
     -- add-k

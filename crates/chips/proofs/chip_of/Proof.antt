@@ -10,7 +10,7 @@ unfolding chipOf
 chip-of-spec =
     tie.close
     (tie.spec
-    -- registers-at-requires, volatile-at-requires, identities-at-requires, shared-slice-read-t6, shared-slice-read-t8
-    (λ c κs. search needs) (λ c κs. search needs) (λ c κs. search needs) (λ c. search needs) (λ c. search needs)
+    -- registers-at-requires, volatile-at-requires, identities-at-requires, none-requires, shared-slice-read-t6, shared-slice-read-t8
+    (λ c κs. search needs) (λ c κs. search needs) (λ c κs. search needs) (λ c κs. tt) (λ c. search needs) (λ c. search needs)
     -- returns
-    (λ c. rw (c .before .before .identities-at .ensures, c .before .before .before .volatile-at .ensures, c .before .before .before .before .registers-at .ensures)))
+    (λ c. rw (c .before .before .none .ensures, c .before .before .before .identities-at .ensures, c .before .before .before .before .volatile-at .ensures, c .before .before .before .before .before .registers-at .ensures)))

@@ -16,10 +16,10 @@ record Same (m₀ a₀ o₀ m a o : List ℕ) (done k : ℕ) : Type 0 where
   few : done ≤ k
 
 abbrev Inv-loop : tie.InvT-loop
-Inv-loop d repeats memory₀ area₀ samples output₀ done₀ k₀ memory area output done k = Same memory₀ area₀ output₀ memory area output done k
+Inv-loop d chunk repeats memory₀ area₀ samples output₀ done₀ k₀ memory area output done k = Same memory₀ area₀ output₀ memory area output done k
 
 abbrev μ-loop : tie.MeasureT-loop
-μ-loop d repeats memory₀ area₀ samples output₀ done₀ k₀ memory area output done k = repeats - k
+μ-loop d chunk repeats memory₀ area₀ samples output₀ done₀ k₀ memory area output done k = repeats - k
 
 pub clocked-all-spec : {M : Type 1} → statement M
 clocked-all-spec =
@@ -36,13 +36,13 @@ clocked-all-spec =
     -- loop-less
     (λ c. omega (arith, c .before .before .before .before .before .before .before .before .before .before .before .loop-test .taken))
     -- loop-again
-    (λ c. let f = c .before .before .before .before .before .before .before .before .before .before .before .before .loop .inv in let h = c .before .before .before .before .before .before .before .clocked .kept in record { memory = h .1 .0 ∙ f .memory; area = h .1 .1 .0 ∙ f .area; output = h .1 .1 .1 .1 .0 ∙ f .output; few = omega (arith, f .few) })
+    (λ c. let f = c .before .before .before .before .before .before .before .before .before .before .before .before .loop .inv in let h = c .before .before .before .before .before .before .before .clocked .kept in record { memory = h .1 .1 .0 ∙ f .memory; area = h .1 .1 .1 .0 ∙ f .area; output = h .1 .1 .1 .1 .1 .0 ∙ f .output; few = omega (arith, f .few) })
     -- add-done
     (λ c. omega (arith, c .before .before .before .before .before .before .before .before .before .before .before .loop-test .taken, c .before .before .before .before .before .before .before .before .before .before .before .before .loop .inv .few))
     -- loop-less-2
     (λ c. omega (arith, c .before .before .before .before .before .before .before .before .before .before .before .loop-test .taken))
     -- loop-again-2
-    (λ c. let f = c .before .before .before .before .before .before .before .before .before .before .before .before .loop .inv in let h = c .before .before .before .before .before .before .before .clocked .kept in record { memory = h .1 .0 ∙ f .memory; area = h .1 .1 .0 ∙ f .area; output = h .1 .1 .1 .1 .0 ∙ f .output; few = omega (arith, f .few) })
+    (λ c. let f = c .before .before .before .before .before .before .before .before .before .before .before .before .loop .inv in let h = c .before .before .before .before .before .before .before .clocked .kept in record { memory = h .1 .1 .0 ∙ f .memory; area = h .1 .1 .1 .0 ∙ f .area; output = h .1 .1 .1 .1 .1 .0 ∙ f .output; few = omega (arith, f .few) })
     -- same-length
     (λ c. c .before .loop .inv .memory)
     -- same-length-2
