@@ -1,9 +1,9 @@
-//! The answers of document 01 by name, what each class of them leaves, and the
-//! clock counts that an answer carries.
+//! The answers of documents 01 and 02 by name, what each class of them leaves, and
+//! the clock counts that an answer carries.
 
 use std::fmt;
 
-/// An answer, with the paper's number.
+/// An answer, with the papers' number.
 #[derive(Clone, Copy, PartialEq, Eq, PartialOrd, Ord, Debug)]
 pub enum Answer {
     Done = 0,
@@ -19,6 +19,8 @@ pub enum Answer {
     Reserved = 10,
     Long = 11,
     Unarmed = 12,
+    /// Out of turn: a call that does not fit a transaction being open, or none.
+    Turn = 13,
 }
 
 /// What a transaction leaves, by its answer.
@@ -40,7 +42,7 @@ impl Answer {
     pub fn class(self) -> Class {
         match self {
             Answer::Done => Class::Done,
-            Answer::Size | Answer::Sample | Answer::State => Class::Refused,
+            Answer::Size | Answer::Sample | Answer::State | Answer::Turn => Class::Refused,
             Answer::Short
             | Answer::Unknown
             | Answer::Asleep

@@ -4,10 +4,11 @@ use std::collections::BTreeMap;
 
 use crate::answer::Answer::{
     self, Address, Asleep, Done, Latch, Long, Protected, Reserved, Sample, Short, Size, State,
-    Unarmed, Unknown,
+    Turn, Unarmed, Unknown,
 };
 use crate::answer::Class;
 use crate::ask::request_list;
+use crate::chunked;
 use crate::compact::take_tape;
 use crate::device::Record;
 use crate::edges::{self, Edge, Sent};
@@ -16,7 +17,7 @@ use crate::generate::{bad_chips, bundle};
 use crate::latched::{self, Seen};
 use crate::limits;
 use crate::parts::{Family, Part, FIRST_FREE_NUMBER, PARTS};
-use crate::probe::Call;
+use crate::probe::{self, Call, Runner};
 use crate::request;
 use crate::rows::{self, Row};
 use crate::spoil::probe_list;
@@ -29,12 +30,19 @@ const ON_TAPE: [Answer; 11] = [
     Done, Sample, Short, Unknown, Asleep, Address, Latch, Protected, Reserved, Long, Unarmed,
 ];
 /// Answers that a transaction can give at all.
-const ON_TRANSACTION: [Answer; 13] = [
+pub const ON_TRANSACTION: [Answer; 14] = [
     Done, Size, Sample, State, Short, Unknown, Asleep, Address, Latch, Protected, Reserved, Long,
-    Unarmed,
+    Unarmed, Turn,
 ];
-/// Answers that a power cycle can give.
-const ON_POWER_CYCLE: [Answer; 3] = [Done, Size, State];
+/// Answers that a power cycle or an open can give.
+const ON_POWER_CYCLE: [Answer; 4] = [Done, Size, State, Turn];
+/// Answers that a feed can give.
+const ON_FEED: [Answer; 5] = [Done, Size, Sample, State, Turn];
+/// Answers that a close can give: all but that to a bad sample.
+const ON_CLOSE: [Answer; 13] = [
+    Done, Size, State, Short, Unknown, Asleep, Address, Latch, Protected, Reserved, Long, Unarmed,
+    Turn,
+];
 /// Answers that a build can give.
 const ON_BUILD: [Answer; 7] = [Done, Size, Short, Unknown, Address, Reserved, Long];
 /// Answers that a gathering can give.
@@ -42,7 +50,7 @@ const ON_GATHER: [Answer; 4] = [Done, Size, Sample, Unknown];
 
 /// Whether a part can give this answer at all. The PSRAM neither sleeps nor
 /// protects, and it has no latch.
-fn can_answer(part: &Part, answer: Answer) -> bool {
+pub fn can_answer(part: &Part, answer: Answer) -> bool {
     part.family == Family::Mram || !matches!(answer, Asleep | Latch | Protected)
 }
 
@@ -363,38 +371,65 @@ pub fn of_probes(seed: u64, count: usize) -> (String, bool) {
     let mut latched = latched::Reached::default();
     let mut edges = edges::Reached::default();
     let mut limits = limits::Reached::default();
-    let mut power_cycles = Tally::default();
+    let mut chunked = chunked::Reached::default();
+    let mut other_calls = [Call::PowerCycle, Call::Open, Call::Feed, Call::Close]
+        .map(|call| (call, Tally::default()));
     let mut clocks = 0u64;
     let mut most_clocks = 0;
+    let (mut file_bytes, mut going_on) = (0, 0u64);
+    let mut runner = Runner::default();
     for probe in probe_list(seed, count) {
-        let outcome = probe.run();
-        let (record, samples, answer) = (&probe.record, &probe.samples, outcome.answer);
-        limits.add(&probe, answer);
-        match probe.call {
-            Call::Transact => {
-                clocks += samples.len() as u64;
-                most_clocks = most_clocks.max(samples.len());
-                transactions.add(record, samples, answer);
-                latched.add_call(record, samples, answer);
-                let sent = Sent::new(record, samples, answer, &outcome.memory, &outcome.area);
-                edges.add(sent.as_ref());
-            }
-            Call::PowerCycle => power_cycles.add_answer(record.part, answer),
+        let Some(outcome) = runner.run(&probe) else {
+            return (String::from("a probe does not run\n"), false);
+        };
+        file_bytes += probe::HEAD_BYTES + probe.samples.len();
+        going_on += u64::from(probe.goes_on);
+        let (record, samples, answer) = (&outcome.before, &probe.samples, outcome.answer);
+        chunked.add(&probe, &outcome);
+        // The other calls are refused on the records that show a limit.
+        let for_closed = matches!(probe.call, Call::Transact | Call::PowerCycle | Call::Open);
+        if for_closed && !probe.goes_on {
+            limits.add(&probe, answer);
+        }
+        if probe.call == Call::Transact {
+            clocks += samples.len() as u64;
+            most_clocks = most_clocks.max(samples.len());
+            transactions.add(record, samples, answer);
+            latched.add_call(record, samples, answer);
+            let sent = Sent::new(record, samples, answer, &outcome.memory, &outcome.area);
+            edges.add(sent.as_ref());
+        }
+        for (_, tally) in other_calls
+            .iter_mut()
+            .filter(|(call, _)| *call == probe.call)
+        {
+            tally.add_answer(record.part, answer);
         }
     }
-    let mut text = format!("probes {count}\nclocks {clocks}, most in one {most_clocks}\n");
+    let mut text = format!(
+        "probes {count}: {going_on} go on, {file_bytes} bytes of file\n\
+         clocks of transactions {clocks}, most in one {most_clocks}\n"
+    );
     let mut complete =
         transactions.show_answers("transactions by answer:", &ON_TRANSACTION, &mut text);
     complete &=
         transactions.show_answers_by_part("answers", &ON_TRANSACTION, can_answer, &mut text);
-    complete &= power_cycles.show_answers("power cycles by answer:", &ON_POWER_CYCLE, &mut text);
-    complete &=
-        power_cycles.show_answers_by_part("answers", &ON_POWER_CYCLE, can_answer, &mut text);
+    for (call, tally) in &other_calls {
+        let wanted: &[Answer] = match call {
+            Call::Feed => &ON_FEED,
+            Call::Close => &ON_CLOSE,
+            _ => &ON_POWER_CYCLE,
+        };
+        let title = format!("{} by answer:", call.word());
+        complete &= tally.show_answers(&title, wanted, &mut text);
+        complete &= tally.show_answers_by_part("answers", wanted, can_answer, &mut text);
+    }
     complete &= transactions.show_pairs(&mut text);
     complete &= latched.show("writes with the latch up:", &mut text);
     text += "at the limits of a part:\n";
     complete &= rows::show(&edges.rows(Edge::on_probes), &mut text);
     complete &= rows::show(&limits.rows(), &mut text);
+    complete &= chunked.show(&mut text);
     text += verdict(complete);
     (text, complete)
 }

@@ -1,8 +1,10 @@
 //! The device half: one whole transaction, a power cycle, a fresh record
-//! (document 01, from "Commands of part M" to "Answer numbers").
+//! (document 01, from "Commands of part M" to "Answer numbers"). `chunks` has the
+//! calls of a transaction that comes in pieces.
 
 use crate::answer::{Answer, Counts};
 use crate::doing::act;
+use crate::facts::{reachable, Open};
 use crate::judging::judge;
 use crate::parts::{find, Family, Part};
 use crate::reading::read;
@@ -36,6 +38,8 @@ pub struct Record {
     pub identity: [u8; 8],
     pub unique: [u8; 8],
     pub serial: [u8; 8],
+    /// The transaction that has come in part.
+    pub open: Open,
 }
 
 impl Record {
@@ -63,14 +67,15 @@ pub fn fresh(part: &Part, n: u8, identity: [u8; 8], unique: [u8; 8]) -> Record {
         identity,
         unique,
         serial: [0; 8],
+        open: Open::default(),
     }
 }
 
-// ---- Checks 1 and 3, shared with the power cycle ----
+// ---- Checks 1 and 3, shared by all calls ----
 
 /// The part of check 1 that does not look at clocks and output; what passes has a
 /// part.
-fn sized_part(record: &Record, memory: &[u8], area: &[u8]) -> Option<&'static Part> {
+pub fn sized_part(record: &Record, memory: &[u8], area: &[u8]) -> Option<&'static Part> {
     find(record.part).filter(|part| {
         part.allows_n(record.n)
             && memory.len() == 1usize << record.n
@@ -99,9 +104,19 @@ pub fn mr0_allowed(value: u8) -> bool {
     value & 0x9C == 0 && value & 0x03 != 3
 }
 
-/// Check 3. Bit 1 of the stored status is refused as well: no write ever leaves
-/// it there, the latch is a field of its own.
+/// Check 3: the registers, and the open transaction if they allow one at all.
 pub fn state_fits(part: &Part, record: &Record) -> bool {
+    registers_fit(part, record)
+        && if record.open.flag {
+            reachable(part, record)
+        } else {
+            record.open == Open::default()
+        }
+}
+
+/// Check 3 without the open transaction. Bit 1 of the stored status is refused as
+/// well: no write ever leaves it there, the latch is a field of its own.
+pub fn registers_fit(part: &Part, record: &Record) -> bool {
     let family_fits = match part.family {
         Family::Mram => {
             status_allowed(record.status)
@@ -150,6 +165,9 @@ pub fn power_cycle(record: &mut Record, memory: &mut [u8], area: &mut [u8]) -> (
     if !state_fits(part, record) {
         return (Answer::State, Counts::default());
     }
+    if record.open.flag {
+        return (Answer::Turn, Counts::default());
+    }
     reset(part, record);
     record.asleep = false;
     record.armed = false;
@@ -164,7 +182,7 @@ pub fn power_cycle(record: &mut Record, memory: &mut [u8], area: &mut [u8]) -> (
 
 /// One transaction: all clocks between select low and select high.
 ///
-/// Answers 1 to 3 leave everything as it is, the output too. All others write
+/// Answers 1 to 3 and 13 leave everything as it is, the output too. All others write
 /// one output byte for each clock and keep the output past them.
 pub fn transact(
     record: &mut Record,
@@ -184,6 +202,9 @@ pub fn transact(
     }
     if !state_fits(part, record) {
         return (Answer::State, Counts::default());
+    }
+    if record.open.flag {
+        return (Answer::Turn, Counts::default());
     }
     let reading = read(part, record, samples);
     let answer = judge(part, record, &reading);

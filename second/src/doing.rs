@@ -8,7 +8,7 @@ use crate::reading::Reading;
 use crate::table::Data;
 use crate::wires::{clocks_for_bits, drive};
 
-/// Does what an answer other than 1 to 3 asks for; `output` has one byte for each
+/// Does what an answer other than 1 to 3 and 13 asks for; `output` has one byte for each
 /// clock.
 pub fn act(
     part: &Part,

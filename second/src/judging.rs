@@ -26,7 +26,7 @@ const TABLE: [(Answer, Holds); 11] = [
     (Answer::Protected, every_place_protected),
 ];
 
-/// The answer to a transaction that has passed checks 1 to 3.
+/// The answer to a transaction that has passed checks 1 to 3 and 13.
 pub fn judge(part: &Part, record: &Record, reading: &Reading) -> Answer {
     TABLE
         .iter()
@@ -51,15 +51,20 @@ fn address_incomplete(_: &Part, _: &Record, reading: &Reading) -> bool {
 }
 
 fn address_not_allowed(part: &Part, record: &Record, reading: &Reading) -> bool {
-    let (Some(opcode), Some(address)) = (reading.opcode, reading.address) else {
-        return false;
-    };
+    match (reading.opcode, reading.address) {
+        (Some(opcode), Some(address)) => !allows_address(part, record, opcode, address),
+        _ => false,
+    }
+}
+
+/// Whether a command that has an address may have this one.
+pub fn allows_address(part: &Part, record: &Record, opcode: u8, address: u32) -> bool {
     match part.family {
-        Family::Mram if opcode == 0x65 => part.register_at(address).is_none(),
-        Family::Mram if in_area(part, opcode) => address as usize >= part.area_bytes,
-        Family::Mram => address >> record.n != 0,
-        Family::Psram if matches!(opcode, 0xB5 | 0xB1) => address & 0x0F != 0,
-        Family::Psram => false,
+        Family::Mram if opcode == 0x65 => part.register_at(address).is_some(),
+        Family::Mram if in_area(part, opcode) => (address as usize) < part.area_bytes,
+        Family::Mram => address >> record.n == 0,
+        Family::Psram if matches!(opcode, 0xB5 | 0xB1) => address & 0x0F == 0,
+        Family::Psram => true,
     }
 }
 

@@ -84,7 +84,7 @@ impl Limit {
         let record = &probe.record;
         let clocks = probe.samples.len();
         let clocks_fit = clocks <= MOST_CLOCKS && clocks <= probe.output_bytes;
-        if probe.call == Call::Transact && !clocks_fit {
+        if probe.call.takes_samples() && !clocks_fit {
             return false;
         }
         let is_part = record.part == part.number;

@@ -19,6 +19,11 @@ impl<T: Copy> Rounds<T> {
         }
     }
 
+    /// How many a round has.
+    pub fn round(&self) -> usize {
+        self.all.len()
+    }
+
     /// The next one; nothing where the list is empty.
     pub fn take(&mut self, rng: &mut Rng) -> Option<T> {
         if self.left.is_empty() {

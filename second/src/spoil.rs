@@ -1,95 +1,32 @@
 //! Seeded probes: valid records in all states, and records and sizes in which one
-//! or two things are wrong; some are off lists of what has to come.
+//! or two things are wrong; most are off lists of what has to come.
 
-use crate::compose::{
-    compose, disturb, pick_configurations, pick_mr0, push_idle, spoil_configurations, Plan,
-};
-use crate::device::{fresh, Record, MOST_CLOCKS};
+use std::collections::VecDeque;
+
+use crate::answer::{Answer, Class};
+use crate::compose::{compose, disturb, push_idle, Plan};
+use crate::courses::{answered, Course};
+use crate::coverage::{can_answer, ON_TRANSACTION};
+use crate::device::{Record, MOST_CLOCKS};
 use crate::doing::store_register;
 use crate::edges::Edge;
+use crate::facts::Open;
 use crate::latched::{Goal, Latched};
 use crate::limits::{Limit, MOST_MADE_N};
-use crate::parts::{find, others, strangers, Family, Part, FIRST_FREE_NUMBER, M, M32, P, PARTS};
-use crate::probe::{Call, Probe};
+use crate::parts::{others, strangers, Family, Part, FIRST_FREE_NUMBER, M, M32, P, PARTS};
+use crate::probe::{Call, Probe, CALLS};
+use crate::records::{ready_record, spoil_record, valid_record};
+use crate::refusals::{Brink, Wanted, BRINKS};
 use crate::rng::Rng;
 use crate::rounds::Rounds;
-
-/// A random record of this part in which nothing is wrong.
-fn valid_record(rng: &mut Rng, part: &Part) -> Record {
-    // Filling a large memory takes its time.
-    let n = match rng.below(80) {
-        0..=47 => part.least_n,
-        48..=70 => 11 + rng.below(3) as u8,
-        71..=78 => 14 + rng.below(4) as u8,
-        _ => part.most_n - 3 + rng.below(4) as u8,
-    };
-    let mut record = fresh(part, n, [0; 8], [0; 8]);
-    record.mode = rng.pick(part.modes());
-    record.armed = rng.chance(1, 3);
-    record.identity = rng.eight();
-    record.identity[part.identity_bytes..].fill(0);
-    match part.family {
-        Family::Mram => {
-            record.unique = rng.eight();
-            record.serial = rng.eight();
-            record.latch = rng.chance(2, 3);
-            record.asleep = rng.chance(1, 12);
-            record.status = (rng.below(16) << 2) as u8;
-            record.area_protection = rng.byte();
-            record.configurations = pick_configurations(rng, part);
-        }
-        Family::Psram => {
-            record.mr0 = pick_mr0(rng);
-            record.toggle = rng.chance(1, 3);
-        }
-    }
-    record
-}
-
-/// Puts one thing into a record that its part does not allow.
-fn spoil_record(rng: &mut Rng, record: &mut Record) {
-    match find(record.part) {
-        Some(part) => match part.family {
-            Family::Mram => spoil_mram(rng, part, record),
-            Family::Psram => spoil_psram(rng, record),
-        },
-        // Of a record of no part nothing shows but answer 1, whatever is in it.
-        None => spoil_psram(rng, record),
-    }
-}
-
-fn spoil_mram(rng: &mut Rng, part: &Part, record: &mut Record) {
-    let bit = 1u8 << rng.below(8);
-    let at = rng.below(8);
-    let past_identity = &mut record.identity[part.identity_bytes..];
-    match rng.below(16) {
-        0 | 1 => record.mode = rng.pick(&[0, 3, 5, 6, 7, 8, 255]),
-        2..=4 => record.status |= rng.pick(&[0x80, 0x40, 0x02, 0x01]),
-        5..=11 => spoil_configurations(rng, part, &mut record.configurations),
-        12 => record.mr0 = rng.pick(&[bit, P.fresh_mr0]),
-        13 => record.toggle = true,
-        _ => past_identity[at % past_identity.len()] = bit,
-    }
-}
-
-fn spoil_psram(rng: &mut Rng, record: &mut Record) {
-    let bit = 1u8 << rng.below(8);
-    let at = rng.below(8);
-    match rng.below(16) {
-        0 | 1 => record.mode = rng.pick(&[0, 2, 2, 3, 5, 8, 255]),
-        2..=6 => record.mr0 |= rng.pick(&[0x80, 0x10, 0x08, 0x04, 0x03]),
-        7 => record.status = bit,
-        8 => record.area_protection = bit,
-        9 | 10 => record.configurations[at % 4] = bit,
-        11 => record.latch = true,
-        12 => record.asleep = true,
-        13 => record.serial[at] = bit,
-        _ => record.unique[at] = bit,
-    }
-}
+use crate::sequences::{brimful, Sequencer};
+use crate::spots::Phase;
+use crate::standing::{
+    any_standing, damaged_probe, largest_list, largest_probe, standing_probe, Damage,
+};
 
 /// Sets an n that is out of the part's range, or a part that is not one.
-fn spoil_limits(rng: &mut Rng, part: &Part, probe: &mut Probe) {
+pub fn spoil_limits(rng: &mut Rng, part: &Part, probe: &mut Probe) {
     let free = FIRST_FREE_NUMBER;
     match rng.below(5) {
         0 => {
@@ -112,7 +49,7 @@ fn spoil_limits(rng: &mut Rng, part: &Part, probe: &mut Probe) {
 }
 
 /// Makes one buffer a wrong size.
-fn spoil_sizes(rng: &mut Rng, probe: &mut Probe) {
+pub fn spoil_sizes(rng: &mut Rng, probe: &mut Probe) {
     const MOST: usize = 1 << MOST_MADE_N;
     match rng.below(8) {
         0 => probe.memory_bytes = (probe.memory_bytes + 1).min(MOST - 1),
@@ -125,26 +62,39 @@ fn spoil_sizes(rng: &mut Rng, probe: &mut Probe) {
     }
 }
 
+/// Changes one thing about the open transaction, or about none, into something that
+/// may fit or not.
+fn spoil_facts(rng: &mut Rng, open: &mut Open) {
+    let bit = rng.below(32);
+    match rng.below(7) {
+        0 => open.flag = !open.flag,
+        1 => open.clocks = open.clocks.wrapping_add(1),
+        2 => open.clocks = open.clocks.wrapping_sub(1),
+        3 => open.opcode ^= 1 << (bit % 8),
+        4 => open.address ^= 1 << bit,
+        5 => open.number ^= 1 << (bit / 2),
+        _ => open.value[bit % 8] ^= 1 << (bit / 4),
+    }
+}
+
 /// A probe that lends what the record and the samples need.
-fn whole_probe(rng: &mut Rng, call: Call, part: &Part, record: Record, samples: Vec<u8>) -> Probe {
+pub fn whole_probe(
+    rng: &mut Rng,
+    call: Call,
+    part: &Part,
+    record: Record,
+    samples: Vec<u8>,
+) -> Probe {
     Probe {
         call,
+        goes_on: false,
         record,
         memory_bytes: 1 << record.n,
         area_bytes: part.area_bytes,
         output_bytes: samples.len() + rng.pick(&[0, 0, 0, 1, 2, 7]),
-        seed: rng.draw() as u32,
+        seed: rng.byte(),
         samples,
     }
-}
-
-/// A random record of this part in which nothing is wrong and that takes commands,
-/// writes too.
-fn ready_record(rng: &mut Rng, part: &Part) -> Record {
-    let mut record = valid_record(rng, part);
-    record.asleep = false;
-    record.latch = part.family == Family::Mram;
-    record
 }
 
 /// A write that finds the latch up and gets its answer.
@@ -202,13 +152,13 @@ fn limit_probe(rng: &mut Rng, part: &Part, limit: Limit) -> Probe {
         Call::Transact,
         Call::Transact,
         Call::PowerCycle,
+        Call::Open,
     ]);
-    let samples = match call {
-        Call::Transact => {
-            let opcode = rng.pick(&part.opcodes());
-            compose(rng, part, &record, opcode, &[], &Plan::sound())
-        }
-        Call::PowerCycle => Vec::new(),
+    let samples = if call.takes_samples() {
+        let opcode = rng.pick(&part.opcodes());
+        compose(rng, part, &record, opcode, &[], &Plan::sound())
+    } else {
+        Vec::new()
     };
     let mut probe = whole_probe(rng, call, part, record, samples);
     match limit {
@@ -265,23 +215,33 @@ fn all_pairs(rng: &mut Rng) -> Vec<Pair> {
     list
 }
 
-/// A command with nothing wrong in it, to a chip that is ready for it.
+/// A command with nothing wrong in it, to a chip that is ready for it: where the
+/// table knows the command it is answered 0.
 fn sound_probe(rng: &mut Rng, (part, mode, opcode): Pair) -> Probe {
-    let mut record = ready_record(rng, part);
-    record.mode = mode;
-    record.armed |= opcode == 0x99;
-    let samples = compose(rng, part, &record, opcode, &[], &Plan::sound());
-    whole_probe(rng, Call::Transact, part, record, samples)
+    loop {
+        let mut record = ready_record(rng, part);
+        record.mode = mode;
+        record.armed |= opcode == 0x99;
+        let samples = compose(rng, part, &record, opcode, &[], &Plan::sound());
+        let course = Course {
+            part,
+            record,
+            samples,
+        };
+        // A burst may have found all its places protected.
+        if course.answer() != Answer::Protected {
+            return whole_probe(rng, Call::Transact, part, record, course.samples);
+        }
+    }
 }
 
-/// Any probe.
-fn any_probe(rng: &mut Rng) -> Probe {
-    let part = rng.pick(&[&M, &M, &M, &M32, &M32, &M32, &P, &P]);
+/// Any call with none open: mostly a transaction.
+fn closed_probe(rng: &mut Rng, part: &Part) -> Probe {
     let record = valid_record(rng, part);
-    let call = if rng.chance(1, 12) {
-        Call::PowerCycle
-    } else {
-        Call::Transact
+    let call = match rng.below(24) {
+        0 | 1 => Call::PowerCycle,
+        2 => rng.pick(&[Call::Open, Call::Feed, Call::Close]),
+        _ => Call::Transact,
     };
     let (is_mram, is_psram) = (part.family == Family::Mram, part.family == Family::Psram);
     let opcode = match rng.below(40) {
@@ -300,7 +260,7 @@ fn any_probe(rng: &mut Rng) -> Probe {
         _ => rng.pick(&part.opcodes()),
     };
     let mut samples = Vec::new();
-    if call == Call::Transact || rng.chance(1, 8) {
+    if call.takes_samples() || rng.chance(1, 8) {
         let size = 1u32 << record.n;
         let hot = [0, size / 2, size - 1, size - 16, size / 4];
         let plan = Plan {
@@ -336,16 +296,28 @@ fn any_probe(rng: &mut Rng) -> Probe {
             _ => {}
         }
     }
-    let mut probe = whole_probe(rng, call, part, record, samples);
+    whole_probe(rng, call, part, record, samples)
+}
+
+/// Any probe.
+fn any_probe(rng: &mut Rng) -> Probe {
+    let part = rng.pick(&[&M, &M, &M, &M32, &M32, &M32, &P, &P]);
+    let mut probe = if rng.chance(1, 4) {
+        let call = rng.pick(&CALLS);
+        any_standing(rng, part, call)
+    } else {
+        closed_probe(rng, part)
+    };
     // A power cycle has few ways to go wrong, so it is spoiled more often.
-    let spoiled = match call {
-        Call::Transact => rng.chance(1, 4),
+    let spoiled = match probe.call {
         Call::PowerCycle => rng.chance(1, 2),
+        _ => rng.chance(1, 4),
     };
     if spoiled {
         for _ in 0..1 + rng.below(2) {
             match rng.below(10) {
-                0..=5 => spoil_record(rng, &mut probe.record),
+                0..=4 => spoil_record(rng, &mut probe.record),
+                5 => spoil_facts(rng, &mut probe.record.open),
                 6 => spoil_limits(rng, part, &mut probe),
                 7 | 8 => spoil_sizes(rng, &mut probe),
                 _ => {
@@ -360,6 +332,41 @@ fn any_probe(rng: &mut Rng) -> Probe {
     probe
 }
 
+/// A whole transaction that gets this answer.
+fn answered_probe(rng: &mut Rng, part: &'static Part, answer: Answer) -> Probe {
+    let course = answered(rng, part, answer);
+    whole_probe(rng, Call::Transact, part, course.record, course.samples)
+}
+
+/// A transaction or a sequence of the most clocks there may be, or one more.
+#[derive(Clone, Copy)]
+enum Long {
+    /// A whole transaction of so many clocks.
+    Whole(usize),
+    /// A chunk of so many clocks with none open.
+    Unopened(usize),
+    Chunks,
+}
+
+fn long_probes(rng: &mut Rng, part: &'static Part, long: Long) -> Vec<Probe> {
+    match long {
+        Long::Chunks => brimful(rng, part),
+        Long::Whole(clocks) | Long::Unopened(clocks) => {
+            let mut course = answered(rng, part, Answer::Done);
+            let more = clocks - course.samples.len();
+            push_idle(rng, &mut course.samples, more, true);
+            let call = match long {
+                Long::Unopened(_) => Call::Feed,
+                _ => Call::Transact,
+            };
+            let Course {
+                record, samples, ..
+            } = course;
+            vec![whole_probe(rng, call, part, record, samples)]
+        }
+    }
+}
+
 /// One of a list for each part.
 type OfPart<T> = (&'static Part, T);
 
@@ -369,19 +376,67 @@ fn of_all_parts<T: Copy>(list: impl Fn(&Part) -> Vec<T>) -> Rounds<OfPart<T>> {
     Rounds::new(PARTS.into_iter().flat_map(of_one).collect())
 }
 
-/// One probe in so many has a memory of some megabytes, off its own list.
-const HEAVY_EVERY: usize = 125;
+/// The answers that a part can give to a transaction which no check refuses.
+fn answers_of(part: &Part) -> Vec<Answer> {
+    let mut list = ON_TRANSACTION.to_vec();
+    list.retain(|&answer| answer.class() != Class::Refused && can_answer(part, answer));
+    list
+}
+
+/// The kinds of probes. Each but the last has a list that is worked off.
+#[derive(Clone, Copy)]
+enum Kind {
+    Heavy,
+    Long,
+    Sequences,
+    Pairs,
+    Latched,
+    Edges,
+    Limits,
+    Answers,
+    Single,
+    Double,
+    Brink,
+    Standing,
+    Damaged,
+    Largest,
+    Any,
+}
+
+/// In so many probes every list has its first round.
+const ROUND_PROBES: usize = 2000;
+/// As many of them are left to sequences, those of the most clocks aside.
+const SEQUENCE_PROBES: usize = 800;
+
+/// How many probes of a kind there are to be in a round, and how many there are.
+struct Share {
+    kind: Kind,
+    of_round: usize,
+    made: usize,
+}
 
 /// Makes probes one after the other. It keeps lists of what has to come and works
 /// them off, so that nothing is left to chance.
 struct Spoiler {
     rng: Rng,
+    shares: Vec<Share>,
+    made: usize,
+    /// The rest of a sequence.
+    waiting: VecDeque<Probe>,
+    heavy: Rounds<OfPart<Limit>>,
+    long: Rounds<OfPart<Long>>,
+    sequencer: Sequencer,
     pairs: Vec<Pair>,
     latched: Rounds<OfPart<Goal>>,
     edges: Rounds<OfPart<Edge>>,
     limits: Rounds<OfPart<Limit>>,
-    heavy: Rounds<OfPart<Limit>>,
-    made: usize,
+    answers: Rounds<OfPart<Answer>>,
+    single: Rounds<OfPart<Wanted>>,
+    double: Rounds<Wanted>,
+    brink: Rounds<OfPart<Brink>>,
+    standing: Rounds<OfPart<(Phase, Call)>>,
+    damaged: Rounds<OfPart<Damage>>,
+    largest: Rounds<OfPart<(Phase, u8)>>,
 }
 
 impl Spoiler {
@@ -393,70 +448,172 @@ impl Spoiler {
                 list
             }
         };
-        Spoiler {
-            rng: Rng::new(seed),
-            pairs: Vec::new(),
+        let long = |part: &Part| {
+            let mut list = vec![
+                Long::Chunks,
+                Long::Unopened(MOST_CLOCKS),
+                Long::Unopened(MOST_CLOCKS + 1),
+            ];
+            if *part == M {
+                list.extend([Long::Whole(MOST_CLOCKS), Long::Whole(MOST_CLOCKS + 1)]);
+            }
+            list
+        };
+        let standing = |part: &Part| -> Vec<(Phase, Call)> {
+            let both = |phase: Phase| [(phase, Call::Feed), (phase, Call::Close)];
+            Phase::list(part).into_iter().flat_map(both).collect()
+        };
+        let mut rng = Rng::new(seed);
+        let pairs = all_pairs(&mut rng);
+        let mut spoiler = Spoiler {
+            rng,
+            shares: Vec::new(),
+            made: 0,
+            waiting: VecDeque::new(),
+            heavy: of_all_parts(limits(true)),
+            long: of_all_parts(long),
+            sequencer: Sequencer::new(answers_of),
+            pairs,
             latched: of_all_parts(Goal::list),
             edges: of_all_parts(Edge::on_probes),
             limits: of_all_parts(limits(false)),
-            heavy: of_all_parts(limits(true)),
-            made: 0,
-        }
+            answers: of_all_parts(answers_of),
+            single: of_all_parts(|_| Wanted::single()),
+            double: Rounds::new(Wanted::double()),
+            brink: of_all_parts(|_| BRINKS.to_vec()),
+            standing: of_all_parts(standing),
+            damaged: of_all_parts(Damage::list),
+            largest: of_all_parts(largest_list),
+        };
+        spoiler.shares = spoiler.all_shares();
+        spoiler
     }
 
-    /// The next probe; of twelve, two are off the list of commands and one off each
-    /// of three others.
+    /// Each list has its length and a little more, so that all of it comes in a
+    /// round; what is left is for probes of any sort.
+    fn all_shares(&self) -> Vec<Share> {
+        let lists = [
+            (Kind::Heavy, self.heavy.round()),
+            // One of each part is a sequence, of 16 probes at most.
+            (Kind::Long, self.long.round() + 15 * PARTS.len()),
+            (Kind::Sequences, SEQUENCE_PROBES),
+            (Kind::Pairs, self.pairs.len()),
+            (Kind::Latched, self.latched.round()),
+            (Kind::Edges, self.edges.round()),
+            (Kind::Limits, self.limits.round()),
+            (Kind::Answers, self.answers.round()),
+            (Kind::Single, self.single.round()),
+            (Kind::Double, self.double.round()),
+            (Kind::Brink, self.brink.round()),
+            (Kind::Standing, self.standing.round()),
+            (Kind::Damaged, self.damaged.round()),
+            (Kind::Largest, self.largest.round()),
+        ];
+        let share = |(kind, length): (Kind, usize)| Share {
+            kind,
+            of_round: length + length / 24 + 1,
+            made: 0,
+        };
+        let mut shares: Vec<Share> = lists.into_iter().map(share).collect();
+        let listed: usize = shares.iter().map(|share| share.of_round).sum();
+        shares.push(Share {
+            kind: Kind::Any,
+            of_round: ROUND_PROBES.saturating_sub(listed),
+            made: 0,
+        });
+        shares
+    }
+
+    /// The next probe: the rest of a sequence, or one of the kind that is furthest
+    /// behind its share.
     fn next(&mut self) -> Probe {
         self.made += 1;
-        let listed = if self.made % HEAVY_EVERY == 0 {
-            self.heavy_probe()
-        } else {
-            self.listed_probe()
-        };
-        match listed {
-            Some(probe) => probe,
-            None => any_probe(&mut self.rng),
+        loop {
+            if let Some(probe) = self.waiting.pop_front() {
+                return probe;
+            }
+            let made = self.made;
+            let behind = |share: &Share| {
+                let due = share.of_round * made;
+                due as i64 - (share.made * ROUND_PROBES) as i64
+            };
+            let furthest = (0..self.shares.len()).max_by_key(|&at| behind(&self.shares[at]));
+            let at = furthest.unwrap_or(0);
+            let probes = self.of_kind(self.shares[at].kind);
+            self.shares[at].made += probes.len().max(1);
+            self.waiting.extend(probes);
         }
     }
 
-    fn heavy_probe(&mut self) -> Option<Probe> {
+    fn of_kind(&mut self, kind: Kind) -> Vec<Probe> {
         let rng = &mut self.rng;
-        let (part, limit) = self.heavy.take(rng)?;
-        Some(limit_probe(rng, part, limit))
+        match kind {
+            Kind::Long => match self.long.take(rng) {
+                Some((part, long)) => long_probes(rng, part, long),
+                None => Vec::new(),
+            },
+            Kind::Sequences => self.sequencer.next(rng),
+            _ => self.one_of_kind(kind).into_iter().collect(),
+        }
     }
 
-    /// The next off one of the other lists, if it is one's turn.
-    fn listed_probe(&mut self) -> Option<Probe> {
-        match self.made % 12 {
-            4 | 8 => {
-                let pair = self.pair();
-                Some(sound_probe(&mut self.rng, pair))
+    fn one_of_kind(&mut self, kind: Kind) -> Option<Probe> {
+        let rng = &mut self.rng;
+        Some(match kind {
+            Kind::Heavy => {
+                let (part, limit) = self.heavy.take(rng)?;
+                limit_probe(rng, part, limit)
             }
-            0 => {
-                let rng = &mut self.rng;
+            Kind::Pairs => {
+                if self.pairs.is_empty() {
+                    self.pairs = all_pairs(rng);
+                }
+                sound_probe(rng, self.pairs.pop()?)
+            }
+            Kind::Latched => {
                 let (part, goal) = self.latched.take(rng)?;
                 let write = goal.draw(rng);
-                Some(latched_probe(rng, part, write))
+                latched_probe(rng, part, write)
             }
-            2 => {
-                let rng = &mut self.rng;
+            Kind::Edges => {
                 let (part, edge) = self.edges.take(rng)?;
-                Some(edge_probe(rng, part, edge))
+                edge_probe(rng, part, edge)
             }
-            6 => {
-                let rng = &mut self.rng;
+            Kind::Limits => {
                 let (part, limit) = self.limits.take(rng)?;
-                Some(limit_probe(rng, part, limit))
+                limit_probe(rng, part, limit)
             }
-            _ => None,
-        }
-    }
-
-    fn pair(&mut self) -> Pair {
-        if self.pairs.is_empty() {
-            self.pairs = all_pairs(&mut self.rng);
-        }
-        self.pairs.pop().unwrap_or((&M, 1, 0x66))
+            Kind::Answers => {
+                let (part, answer) = self.answers.take(rng)?;
+                answered_probe(rng, part, answer)
+            }
+            Kind::Single => {
+                let (part, wanted) = self.single.take(rng)?;
+                wanted.probe(rng, part)
+            }
+            Kind::Double => {
+                let wanted = self.double.take(rng)?;
+                let part = rng.pick(&PARTS);
+                wanted.probe(rng, part)
+            }
+            Kind::Brink => {
+                let (part, brink) = self.brink.take(rng)?;
+                brink.probe(rng, part)
+            }
+            Kind::Standing => {
+                let (part, (phase, call)) = self.standing.take(rng)?;
+                standing_probe(rng, part, phase, call)
+            }
+            Kind::Damaged => {
+                let (part, damage) = self.damaged.take(rng)?;
+                damaged_probe(rng, part, damage)
+            }
+            Kind::Largest => {
+                let (part, (phase, wires)) = self.largest.take(rng)?;
+                largest_probe(rng, part, phase, wires)
+            }
+            Kind::Long | Kind::Sequences | Kind::Any => any_probe(rng),
+        })
     }
 }
 

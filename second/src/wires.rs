@@ -50,6 +50,23 @@ pub fn collect(samples: &[u8], wires: u8) -> Vec<u8> {
         .collect()
 }
 
+/// The bits of a run of input samples as one number, the first the highest. It is
+/// asked for what is less than an address, so that it has room.
+pub fn as_number(samples: &[u8], wires: u8) -> u32 {
+    samples.iter().fold(0, |number, sample| {
+        (number << wires) | u32::from(sample & mask(wires))
+    })
+}
+
+/// The input samples of the lowest bits of a number, so many clocks of them, the
+/// highest first and unused wires low.
+pub fn spread_number(number: u32, clocks: usize, wires: u8) -> Vec<u8> {
+    (0..clocks)
+        .rev()
+        .map(|after| (number >> (usize::from(wires) * after)) as u8 & mask(wires))
+        .collect()
+}
+
 /// What the device drives while it sends `bytes` for so many clocks: the wires it
 /// drives in the high half, their levels in the low half. The last byte may be
 /// cut; its first bits are driven all the same. Clocks past the bytes are not

@@ -232,6 +232,7 @@ fn limits_of_probes() {
     let chip = Bench::m32();
     let good = Probe {
         call: Call::Transact,
+        goes_on: false,
         record: chip.record,
         memory_bytes: 1024,
         area_bytes: 512,

@@ -3,8 +3,10 @@
 mod common;
 
 use second::answer::{Answer, Class, Counts};
+use second::chunks;
 use second::compact::compact_text;
 use second::device::{power_cycle, transact, Record};
+use second::facts::Open;
 use second::host::{build, gather};
 use second::probe::probe_text;
 use second::request::host_text;
@@ -124,6 +126,30 @@ fn any_record(rng: &mut Rng) -> Record {
         identity: eight(rng),
         unique: eight(rng),
         serial: eight(rng),
+        open: any_facts(rng),
+    }
+}
+
+/// Mostly of none open, since hardly any other facts fit.
+fn any_facts(rng: &mut Rng) -> Open {
+    if rng.chance(3, 4) {
+        return Open::default();
+    }
+    Open {
+        flag: rng.chance(3, 4),
+        clocks: if rng.chance(3, 4) {
+            rng.below(60) as u32
+        } else {
+            rng.draw() as u32
+        },
+        opcode: rng.byte(),
+        address: rng.draw() as u32 >> rng.below(32),
+        number: rng.draw() as u32 >> rng.below(32),
+        value: if rng.chance(1, 2) {
+            [0; 8]
+        } else {
+            rng.eight()
+        },
     }
 }
 
@@ -153,8 +179,28 @@ fn random_calls() {
             assert_eq!((after, counts), (record, Counts::default()));
         }
         let (answer, counts) = power_cycle(&mut after, &mut memory, &mut area);
-        assert!([Answer::Done, Answer::Size, Answer::State].contains(&answer));
+        let refusals = [Answer::Size, Answer::State, Answer::Turn];
+        assert!(answer == Answer::Done || refusals.contains(&answer));
         assert_eq!(counts, Counts::default());
+        let mut kept = None;
+        for _ in 0..3 {
+            let before = after;
+            let (answer, counts) = match rng.below(3) {
+                0 => chunks::open(&mut after, &memory, &area, &mut kept),
+                1 => chunks::feed(
+                    &mut after,
+                    &mut memory,
+                    &mut area,
+                    &mut kept,
+                    &samples,
+                    &mut output,
+                ),
+                _ => chunks::close(&mut after, &mut memory, &mut area, &mut kept),
+            };
+            if answer.class() == Class::Refused {
+                assert_eq!((after, counts), (before, Counts::default()));
+            }
+        }
     }
 }
 

@@ -270,15 +270,16 @@ fn probe_lines() {
     chip.record.latch = true;
     let probe = Probe {
         call: Call::Transact,
+        goes_on: false,
         record: chip.record,
         memory_bytes: 1024,
         area_bytes: 256,
         output_bytes: 9,
-        seed: 0xFFFF_FFFE,
+        seed: 0xFE,
         samples: on(1, &[0x66]),
     };
     let mut file = probe.to_bytes();
-    assert_eq!(file.len(), 64 + 8);
+    assert_eq!(file.len(), 96 + 8);
     let memory: Vec<u8> = (0..1024u64)
         .map(|i| (0xFE + i * 7 + i / 251) as u8)
         .collect();
@@ -288,7 +289,7 @@ fn probe_lines() {
     output[..8].fill(0);
     let tail = |armed: u8, output: &[u8]| {
         format!(
-            "1 10 1 1{armed}00 04000008000500 E601150100000000 8172635445362718 0000000000000000 {:08X} {:08X} {:08X}",
+            "1 10 1 1{armed}00 04000008000500 E601150100000000 8172635445362718 0000000000000000 0 0 0 0 0 0000000000000000 {:08X} {:08X} {:08X}",
             digest(&memory),
             digest(&area),
             digest(output)

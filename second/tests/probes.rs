@@ -1,0 +1,386 @@
+//! Probes of open transactions: the format, probes that go on from each other, and
+//! what the generator and the coverage make of them.
+
+mod common;
+
+use common::{at, join, on, Bench};
+use second::answer::Answer::{Sample, Size, State, Turn};
+use second::chunked;
+use second::compact::digest;
+use second::courses::{answered, through};
+use second::device::{state_fits, MOST_CLOCKS};
+use second::facts::Open;
+use second::parts::{find, PARTS};
+use second::probe::{probe_text, Call, Probe, Runner, CALLS, NO_RECORD};
+use second::refusals::{checks, refusals, Wanted};
+use second::rng::Rng;
+use second::spoil::{probe_list, probes};
+use second::spots::{Phase, Spot, Why};
+use second::standing::{damaged_probe, damages, largest_probe, standing_probe, Damage};
+
+/// A probe on part 1 with none open.
+fn probe(call: Call, samples: &[u8]) -> Probe {
+    Probe {
+        call,
+        goes_on: false,
+        record: Bench::m().record,
+        memory_bytes: 1024,
+        area_bytes: 256,
+        output_bytes: samples.len(),
+        seed: 9,
+        samples: samples.to_vec(),
+    }
+}
+
+fn going_on(call: Call, samples: &[u8]) -> Probe {
+    Probe {
+        goes_on: true,
+        record: NO_RECORD,
+        ..probe(call, samples)
+    }
+}
+
+fn text_of(list: &[Probe]) -> String {
+    let bytes: Vec<u8> = list.iter().flat_map(Probe::to_bytes).collect();
+    probe_text(&bytes)
+}
+
+#[test]
+fn head_of_a_probe() {
+    let mut whole = probe(Call::Feed, &[1, 2, 3]);
+    whole.record.open = Open {
+        flag: true,
+        clocks: 0x0102_0304,
+        opcode: 0xAB,
+        address: 0x1122_3344,
+        number: 0x5566_7788,
+        value: [1, 2, 3, 4, 5, 6, 7, 8],
+    };
+    let mut bytes = whole.to_bytes();
+    assert_eq!(bytes.len(), 96 + 3);
+    assert_eq!(bytes[0], 4);
+    assert_eq!(bytes[56..64], [9, 0, 0, 0, 0, 0, 0, 0]);
+    assert_eq!(bytes[64..68], [1, 0xAB, 0, 0]);
+    assert_eq!(bytes[68..72], [4, 3, 2, 1]);
+    assert_eq!(bytes[72..76], [0x44, 0x33, 0x22, 0x11]);
+    assert_eq!(bytes[76..80], [0x88, 0x77, 0x66, 0x55]);
+    assert_eq!(bytes[80..88], [1, 2, 3, 4, 5, 6, 7, 8]);
+    assert_eq!(bytes[88..], [0, 0, 0, 0, 0, 0, 0, 0, 1, 2, 3]);
+    assert_eq!(Probe::take(&mut &bytes[..]), Some(whole.clone()));
+    // Any byte but 0 is a true flag.
+    bytes[64] = 0x40;
+    assert_eq!(Probe::take(&mut &bytes[..]), Some(whole));
+    for (call, number) in CALLS.into_iter().zip(1..) {
+        assert_eq!(probe(call, &[]).to_bytes()[0], number);
+    }
+    let bytes = going_on(Call::Close, &[]).to_bytes();
+    assert_eq!(bytes[0], 5);
+    assert!(bytes[1..40].iter().all(|&byte| byte == 0));
+    assert_eq!(bytes[56..58], [9, 1]);
+    assert!(bytes[58..96].iter().all(|&byte| byte == 0));
+}
+
+/// A file that asks for what there is not.
+#[test]
+fn probes_that_do_not_run() {
+    let first = probe(Call::Open, &[]);
+    let line = text_of(std::slice::from_ref(&first));
+    let cut = format!("{line}cut\n");
+    assert_eq!(text_of(&[going_on(Call::Close, &[])]), "cut\n");
+    for (memory_bytes, area_bytes) in [(1025, 256), (1024, 257)] {
+        let more = Probe {
+            memory_bytes,
+            area_bytes,
+            ..going_on(Call::Close, &[])
+        };
+        assert_eq!(text_of(&[first.clone(), more]), cut);
+    }
+    for (place, byte) in [(0, 0), (0, 6), (57, 2)] {
+        let mut bytes = first.to_bytes();
+        bytes[place] = byte;
+        let file = join(&[&first.to_bytes(), &bytes]);
+        assert_eq!(probe_text(&file), cut);
+    }
+}
+
+#[test]
+fn lines_of_probes_that_go_on() {
+    let mut first = probe(Call::Open, &[]);
+    first.record.latch = true;
+    let samples = on(1, &join(&[&[0x02], &at(0x3FF), &[0xC5, 0x0F]]));
+    let mut memory: Vec<u8> = (0..1024u64).map(|i| (9 + i * 7 + i / 251) as u8).collect();
+    let half = digest(&memory[..512]);
+    let before = digest(&memory);
+    memory[0x3FF] = 0xC5;
+    let after = digest(&memory);
+    let area: Vec<u8> = (0..256u64).map(|i| (9 + 3 + i * 5) as u8).collect();
+    let area = format!("{:08X}", digest(&area));
+    let filled = |seed: u64, bytes: u64| -> Vec<u8> {
+        (0..bytes).map(|i| (seed + 11 + i * 13) as u8).collect()
+    };
+    let none = format!("{:08X}", digest(&[]));
+    let zeros = |bytes: usize| format!("{:08X}", digest(&vec![0; bytes]));
+    let list = [
+        first,
+        going_on(Call::Feed, &samples[..35]),
+        // Less memory: refused, and what is lent is shown.
+        Probe {
+            memory_bytes: 512,
+            ..going_on(Call::Feed, &samples[35..])
+        },
+        going_on(Call::Open, &[]),
+        // The output has its own seed in each probe.
+        Probe {
+            seed: 77,
+            output_bytes: 6,
+            ..going_on(Call::Feed, &samples[35..40])
+        },
+        going_on(Call::Close, &[]),
+        going_on(Call::Close, &[]),
+        // The whole chip goes on, and a new one begins.
+        going_on(Call::Transact, &on(1, &[0x66])),
+        probe(Call::PowerCycle, &[]),
+    ];
+    let text = text_of(&list);
+    let lines: Vec<&str> = text.lines().collect();
+    let tail = "00000008000500 E601150100000000 8172635445362718 0000000000000000";
+    let no_value = "0000000000000000";
+    let mut last = vec![0; 5];
+    last.extend(&filled(77, 6)[5..]);
+    let expected = [
+        format!("1 0 0 0 0 0 0 1 10 1 1000 {tail} 1 0 0 0 0 {no_value} {before:08X} {area} {none}"),
+        format!(
+            "2 0 0 0 0 0 0 1 10 1 1000 {tail} 1 35 2 1023 6 {no_value} {before:08X} {area} {}",
+            zeros(35)
+        ),
+        format!(
+            "3 1 0 0 0 0 0 1 10 1 1000 {tail} 1 35 2 1023 6 {no_value} {half:08X} {area} {:08X}",
+            digest(&filled(9, 13))
+        ),
+        format!(
+            "4 13 0 0 0 0 0 1 10 1 1000 {tail} 1 35 2 1023 6 {no_value} {before:08X} {area} {none}"
+        ),
+        format!(
+            "5 0 0 0 0 0 0 1 10 1 1000 {tail} 1 40 2 1023 0 {no_value} {after:08X} {area} {:08X}",
+            digest(&last)
+        ),
+        format!("6 0 8 24 0 8 0 1 10 1 1000 {tail} 0 0 0 0 0 {no_value} {after:08X} {area} {none}"),
+        format!("7 13 0 0 0 0 0 1 10 1 1000 {tail} 0 0 0 0 0 {no_value} {after:08X} {area} {none}"),
+        format!(
+            "8 0 8 0 0 0 0 1 10 1 1100 {tail} 0 0 0 0 0 {no_value} {after:08X} {area} {}",
+            zeros(8)
+        ),
+        format!("9 0 0 0 0 0 0 1 10 1 0000 {tail} 0 0 0 0 0 {no_value} {before:08X} {area} {none}"),
+    ];
+    assert_eq!(lines, expected);
+}
+
+/// A probe on an open record goes on as if its samples had been kept.
+#[test]
+fn a_sequence_may_begin_with_one_open() {
+    let mut first = probe(Call::Feed, &on(1, &[0x34]));
+    first.record.latch = true;
+    first.record.open = Open {
+        flag: true,
+        clocks: 8 + 8 * 4 + 4,
+        opcode: 0x87,
+        value: [0, 3, 0x11, 0x06, 0, 0, 0, 0],
+        ..Open::default()
+    };
+    let close = going_on(Call::Close, &[]);
+    // All four values have come, and the clocks behind them are too many.
+    let text = text_of(&[first.clone(), close.clone()]);
+    assert!(text.starts_with("1 0 0 0 0 0 0 1 10 1 1000 "));
+    assert!(text.contains("\n2 11 8 0 0 32 12 1 10 1 1000 00000008000500 "));
+    // A value less: the bits of the last one go on where they stand.
+    first.record.open.clocks -= 8;
+    first.record.open.value[3] = 0;
+    first.samples = on(1, &[0x60])[..4].to_vec();
+    let text = text_of(&[first, close]);
+    assert!(
+        text.contains("\n2 0 8 0 0 32 0 1 10 1 0000 00000003110600 "),
+        "{text}"
+    );
+}
+
+#[test]
+fn spots_of_records() {
+    let m = find(1).unwrap();
+    let p = find(2).unwrap();
+    let spot = |phase: Phase, wires: u8, clocks: usize| Spot {
+        phase,
+        wires,
+        clocks,
+    };
+    let mut chip = Bench::m();
+    let mut stand = |clocks: u32, opcode: u8, address: u32| {
+        chip.record.open = Open {
+            flag: true,
+            clocks,
+            opcode,
+            address,
+            ..Open::default()
+        };
+        Spot::of(m, &chip.record)
+    };
+    assert_eq!(stand(0, 0, 0), spot(Phase::Command, 1, 0));
+    assert_eq!(stand(7, 0, 0), spot(Phase::Command, 1, 7));
+    assert_eq!(stand(8, 2, 0), spot(Phase::Address, 1, 0));
+    assert_eq!(stand(31, 2, 0), spot(Phase::Address, 1, 23));
+    assert_eq!(stand(32, 2, 0), spot(Phase::Memory, 1, 0));
+    assert_eq!(stand(43, 2, 0), spot(Phase::Memory, 1, 3));
+    assert_eq!(stand(43, 2, 0x400), spot(Phase::Rest(Why::Address), 1, 11));
+    assert_eq!(stand(43, 0x42, 0), spot(Phase::Area, 1, 3));
+    assert_eq!(stand(33, 0x65, 0), spot(Phase::Wait, 1, 1));
+    assert_eq!(stand(41, 0x65, 0), spot(Phase::Read, 1, 1));
+    assert_eq!(stand(50, 0x65, 0), spot(Phase::Rest(Why::PastRead), 1, 2));
+    assert_eq!(stand(8, 6, 0), spot(Phase::Rest(Why::PastCommand), 1, 0));
+    assert_eq!(stand(9, 1, 0), spot(Phase::Register, 1, 1));
+    assert_eq!(stand(17, 1, 0), spot(Phase::Rest(Why::PastWrite), 1, 1));
+    assert_eq!(stand(9, 0x0B, 0), spot(Phase::Rest(Why::Unknown), 1, 1));
+    chip.record.asleep = true;
+    assert_eq!(
+        Spot::of(m, &chip.record),
+        spot(Phase::Rest(Why::Asleep), 1, 1)
+    );
+    let mut chip = Bench::p();
+    chip.record.open.opcode = 0x38;
+    chip.record.open.clocks = 15;
+    assert_eq!(Spot::of(p, &chip.record), spot(Phase::Memory, 4, 1));
+}
+
+/// Made courses, records and damages are what they are made for.
+#[test]
+fn made_for_what_they_show() {
+    let mut rng = Rng::new(5);
+    for part in PARTS {
+        for spot in Spot::list(part) {
+            let course = through(&mut rng, part, spot.phase, spot.wires);
+            let passes = |clocks| course.spot(clocks).rough() == spot;
+            assert!((1..course.samples.len()).any(passes), "{spot:?}");
+        }
+        for phase in Phase::list(part) {
+            for call in CALLS {
+                for _ in 0..10 {
+                    let probe = standing_probe(&mut rng, part, phase, call);
+                    assert!(state_fits(part, &probe.record), "{:?}", probe.record.open);
+                    assert_eq!(Spot::of(part, &probe.record).phase, phase);
+                    let told = matches!(call, Call::Feed | Call::Close);
+                    assert_eq!(probe.run().answer == Turn, !told);
+                }
+            }
+        }
+        for damage in Damage::list(part) {
+            for _ in 0..10 {
+                let probe = damaged_probe(&mut rng, part, damage);
+                assert!(damages(part, &probe.record).contains(&damage), "{damage:?}");
+                assert_eq!(probe.run().answer, State, "{damage:?}");
+            }
+        }
+        for (phase, wires) in second::standing::largest_list(part) {
+            let mut probe = largest_probe(&mut rng, part, phase, wires);
+            assert!(state_fits(part, &probe.record));
+            probe.record.open.number += 1;
+            assert!(!state_fits(part, &probe.record));
+        }
+        for wanted in Wanted::single().into_iter().chain(Wanted::double()) {
+            let probe = wanted.probe(&mut rng, part);
+            let faults = refusals(&probe, &probe.record);
+            let answer = probe.run().answer;
+            assert!(faults.len() <= 2);
+            match faults.first() {
+                Some(&first) => assert_eq!(answer, first),
+                None => assert!(!checks(probe.call).contains(&answer)),
+            }
+        }
+        let unarmed = second::answer::Answer::Unarmed;
+        assert_eq!(answered(&mut rng, part, unarmed).answer(), unarmed);
+    }
+}
+
+#[test]
+fn refusals_of_a_call() {
+    let mut fed = probe(Call::Feed, &[0, 16]);
+    assert_eq!(refusals(&fed, &fed.record), [Sample, Turn]);
+    fed.record.open.number = 1;
+    assert_eq!(refusals(&fed, &fed.record), [Sample, State, Turn]);
+    fed.output_bytes = 1;
+    assert_eq!(refusals(&fed, &fed.record), [Size, Sample, State, Turn]);
+    fed.call = Call::Open;
+    assert_eq!(refusals(&fed, &fed.record), [State]);
+    fed.record.part = 0;
+    assert_eq!(refusals(&fed, &fed.record), [Size]);
+}
+
+/// A made file runs to its end: what goes on has something to go on from, and no
+/// more is lent than there is.
+#[test]
+fn made_sequences() {
+    for seed in 1..=3 {
+        let bytes = probes(seed, 2000);
+        assert!(bytes.len() < 3_000_000, "{}", bytes.len());
+        let text = probe_text(&bytes);
+        assert_eq!(text.lines().count(), 2000);
+        assert!(!text.contains("cut"));
+        let list = probe_list(seed, 2000);
+        let mut runner = Runner::default();
+        let mut reached = chunked::Reached::default();
+        let (mut sequences, mut chunks, mut most_chunks, mut full) = (0, 0, 0, 0);
+        let mut before: Option<&Probe> = None;
+        for probe in &list {
+            let outcome = runner.run(probe).expect("a probe that runs");
+            reached.add(probe, &outcome);
+            assert!(probe.samples.len() <= MOST_CLOCKS + 1);
+            if probe.goes_on {
+                assert_eq!(probe.record, NO_RECORD);
+                sequences += u32::from(before.is_some_and(|before| !before.goes_on));
+                chunks += u32::from(probe.call == Call::Feed);
+                most_chunks = most_chunks.max(chunks);
+                full += u32::from(outcome.record.open.clocks as usize == MOST_CLOCKS);
+            } else {
+                chunks = 0;
+            }
+            before = Some(probe);
+        }
+        assert!(sequences > 50, "{sequences}");
+        assert!((20..40).contains(&most_chunks), "{most_chunks}");
+        assert!(full > 3);
+        let singles = |call: Call| list.iter().filter(|p| !p.goes_on && p.call == call).count();
+        assert!(CALLS.into_iter().all(|call| singles(call) > 50));
+        // Records with one open and with none.
+        let opened = |p: &&Probe| !p.goes_on && p.record.open.flag;
+        assert!(list.iter().filter(opened).count() > 300);
+        let none = |p: &&Probe| !p.goes_on && p.record.open == Open::default();
+        assert!(list.iter().filter(none).count() > 700);
+    }
+}
+
+/// The coverage sees a close that is not as the whole transaction, and an answer
+/// that the refusals do not ask for.
+#[test]
+fn coverage_sees_what_is_wrong() {
+    let wrong = |change: &dyn Fn(&mut second::probe::Outcome)| {
+        let mut runner = Runner::default();
+        let mut reached = chunked::Reached::default();
+        let list = [
+            probe(Call::Open, &[]),
+            going_on(Call::Feed, &on(1, &[0x06])),
+            going_on(Call::Close, &[]),
+        ];
+        for probe in &list {
+            let mut outcome = runner.run(probe).expect("a probe that runs");
+            if probe.call == Call::Close {
+                change(&mut outcome);
+            }
+            reached.add(probe, &outcome);
+        }
+        let mut text = String::new();
+        assert!(!reached.show(&mut text));
+        !text.contains("otherwise than they should be: 0\n")
+    };
+    assert!(!wrong(&|_| {}));
+    assert!(wrong(&|outcome| outcome.counts.rest = 1));
+    assert!(wrong(&|outcome| outcome.record.armed = true));
+    assert!(wrong(&|outcome| outcome.memory[5] ^= 1));
+    assert!(wrong(&|outcome| outcome.answer = Turn));
+}
