@@ -56,7 +56,7 @@ enum { TONDRAVIK_PART_M = 1, TONDRAVIK_PART_P = 2, TONDRAVIK_PART_M32 = 3 };
 
 /* A chip is TONDRAVIK_CHIP bytes, all that it is but for its memory and its area. C may look at them and change them:
  * values that no chip has are answered 1 (part, n) or 3 (all others) by the next call. The bytes stand for chips with no
- * transaction open: the calls that take one in chunks come to C with the image of the whole record. */
+ * transaction open: no call here takes a transaction in chunks, and none is answered 13. */
 enum {
     TONDRAVIK_AT_PART = 0,
     TONDRAVIK_AT_N = 1, /* the memory has 2^n bytes, n from 10 to 21, on part M32 to 22 */

@@ -3,48 +3,45 @@
 use mathlib.Core.Path.{_≡_, refl, sym, ap, subst, _∙_}
 use Prim.Native.Nat.{ℕ, _+_, _≤_}
 use native.Mathlib.Omega.{arith}
-use mathlib.Core.Bool.{Bool, true, false, cond, not, _&&_}
+use mathlib.Core.Bool.{Bool, true, false, not}
 use mathlib.Core.List.{List, [], _∷_, _++_, append-nil, append-assoc}
-use lib.Dec.{leb}
+use lib.Dec.{leb, eqb}
 use lib.ListN.{length, take, drop, length-append}
 use lib.Seq.{take-at, drop-at}
-use borrow.Author.Tests.{leb-true, le-leb}
+use borrow.Author.Tests.{leb-true, le-leb, eqb-true}
 use Rattle.basis.specs.Truth.{both-true, not-untrue}
 use Rattle.basis.specs.Decisions.{NoneHolds}
 use Rattle.parts.specs.declared.Family.{Family}
 use Rattle.parts.specs.declared.Family.the-variants.{Mram, Psram}
 use Rattle.parts.specs.Parts.{partOf, familyOf}
-use Rattle.units.specs.declared.Clocks.{Clocks}
-use Rattle.units.specs.Units.{clocks, plus, atMost, longest}
+use Rattle.units.specs.Units.{clocks, atMost}
 use Rattle.counts.specs.Counts.{noCounts}
-use Rattle.progress.specs.declared.Progress.{Progress}
 use Rattle.record.specs.declared.answers.Answer.the-variants.{Done}
 use Rattle.record.specs.declared.devices.Underway.{Underway}
 use Rattle.record.specs.declared.devices.Device.{Device}
 use Rattle.record.specs.Answers.{refuses}
 use Rattle.record.specs.Devices.{settingOf}
-use Rattle.record.specs.Fields.{noUnderway, justOpen, underwayTo, openedOf, closedOf}
+use Rattle.record.specs.Fields.{noUnderway, underwayTo, closedOf}
 use Rattle.state_check.specs.States.{zeros, validFor, inRange}
-use Rattle.paper.specs.Reading.{many}
-use Rattle.paper.specs.Underway.{reached, factless, underwayValid, validOf}
+use Rattle.paper.specs.Underway.{factless, underwayValid, validOf}
 use Rattle.paper.specs.Storing.{Lent}
-use Rattle.paper.specs.Transaction.{World, sizedFor, roomFor, roomAfter, sampled, over, undriven, openChecks, feedChecks, closeChecks, clockedOf, transactOf}
-use Rattle.paper.specs.CallLaws.{Untouched, Accepted, refused-by, made-by, passed-by, when-accepted, judge-refuses-none}
+use Rattle.paper.specs.Transaction.{World, sizedFor, roomFor, roomAfter, sampled, over, openChecks, feedChecks, closeChecks, clockedOf, transactOf}
+use Rattle.paper.specs.CallLaws.{made-by, passed-by, when-accepted}
 use Rattle.paper.specs.Meanwhile.{underwayOf}
 use Rattle.contract_words.specs.Words.{Run, begun}
 use Rattle.machine_phases.specs.Machine.{runOf, outsOf}
 use Rattle.machine_phases.specs.RunLaws.{outs-append, outs-length, run-append}
-use Rattle.machine_end.specs.Finish.{factsIn, outcomeOf, finishOf}
-use Rattle.machine_chunks.specs.Chunks.{resumeOf, resumed, fedTo, runOn, outsOn, openedWorld, openOf, fedWorld, feedOf, closeOf}
-use Rattle.demand_1_2.specs.Kept.{SameSize, Kept, valid-range, valid-underway, untouched-kept, output-size, transact-kept}
+use Rattle.machine_end.specs.Finish.{finishOf}
+use Rattle.machine_chunks.specs.Chunks.{resumed, openedWorld, openOf, fedWorld, feedOf, closeOf}
+use Rattle.demand_1_2.specs.Kept.{SameSize, valid-range, idle-facts}
 use Rattle.demand_1_2.specs.Sent.{sampled-append}
 use Rattle.demand_3.specs.Episodes.{Chip, Call, leaves, samplesOf}
 use Rattle.demand_3.specs.Programs.{joined}
-use Rattle.chunks.specs.Standing.{standing}
-use Rattle.chunks.specs.Feeding.{Left, left, after, back, fed-on, outs-at, none-yet, closed-at, driven-at, lent-at}
+use Rattle.chunks.specs.Feeding.{left, after, fed-on, none-yet, closed-at, driven-at, lent-at}
 use Rattle.chunks.specs.Kept.{facts-reached}
-use Rattle.chunks.specs.Rebuilt.{Typed, Reach, reach}
-use Rattle.chunks.specs.Runs.{run-known, run-size}
+use Rattle.chunks.specs.Reached.{zeros-all}
+use Rattle.chunks.specs.Rebuilt.{Typed}
+use Rattle.chunks.specs.Runs.{run-size}
 
 -- ---- the words of the statements
 -- a chunk is fed as a call is made: its samples, and the output that is lent for them
@@ -176,6 +173,25 @@ pub record Idle (c : Chip) : Type 0 where
   pub sized : sizedFor (c .device) (c .lent) ≡ true
   pub valid : validOf (c .device) ≡ true
   pub none : c .device .underway ≡ noUnderway
+
+-- so has every device in a valid state with none open, as the types of the code have its facts
+pub none-open : (d : Device) → Typed (d .underway) → validOf d ≡ true → d .underway .selected ≡ false → d .underway ≡ noUnderway
+unfolding factless
+none-open d t v n =
+    let u = d .underway in
+    let f = idle-facts d v n in
+    let b₁ = both-true (atMost (u .clocks) (clocks 0)) _ f in
+    let b₂ = both-true (eqb (u .opcode) 0) _ (b₁ .1) in
+    let b₃ = both-true (eqb (u .address) 0) _ (b₂ .1) in
+    let b₄ = both-true (eqb (u .number) 0) (zeros (u .value)) (b₃ .1) in
+    let h = leb-true (u .clocks .0) 0 (b₁ .0) in
+    let z : u .clocks .0 ≡ 0 = omega arith in
+    ap (λ (b : Bool). record { selected = b; clocks = u .clocks; opcode = u .opcode; address = u .address; number = u .number; value = u .value }) n
+    ∙ ap (λ (m : ℕ). record { selected = false; clocks = clocks m; opcode = u .opcode; address = u .address; number = u .number; value = u .value }) z
+    ∙ ap (λ (m : ℕ). record { selected = false; clocks = clocks 0; opcode = m; address = u .address; number = u .number; value = u .value }) (eqb-true (u .opcode) 0 (b₂ .0))
+    ∙ ap (λ (m : ℕ). record { selected = false; clocks = clocks 0; opcode = 0; address = m; number = u .number; value = u .value }) (eqb-true (u .address) 0 (b₃ .0))
+    ∙ ap (λ (m : ℕ). record { selected = false; clocks = clocks 0; opcode = 0; address = 0; number = m; value = u .value }) (eqb-true (u .number) 0 (b₄ .0))
+    ∙ ap (λ (w : List ℕ). record { selected = false; clocks = clocks 0; opcode = 0; address = 0; number = 0; value = w }) (zeros-all (u .value) 8 (t .places) (b₄ .1))
 
 -- the chip once a transaction is opened
 abbrev pub opened : Chip → Chip

@@ -1,6 +1,6 @@
 -- Document 02, P1, worked out: transactions opened, fed and closed, cut where it matters, and the calls that are refused.
 use Prim.Native.Nat.{ℕ, _+_}
-use mathlib.Core.Bool.{Bool, true, false, not, _&&_}
+use mathlib.Core.Bool.{Bool, true, not, _&&_}
 use mathlib.Core.List.{List, [], _∷_, _++_, map}
 use lib.Dec.{T, eqb}
 use lib.ListN.{length, getD, take, drop, replicate}
@@ -15,8 +15,7 @@ use Rattle.parts.specs.Parts.{areaOf, offered}
 use Rattle.opcodes.specs.Opcodes.{meaningOf}
 use Rattle.commands.specs.Registers.{mappedOf}
 use Rattle.record.specs.declared.devices.Device.{Device}
-use Rattle.record.specs.Answers.{answerNumber}
-use Rattle.record.specs.Fields.{latchTo, armTo, underwayTo}
+use Rattle.record.specs.Fields.{armTo, underwayTo}
 use Rattle.record.specs.Fresh.{makeOf, freshOf}
 use Rattle.changes.specs.Latches.{latchMissing}
 use Rattle.state_check.specs.Values.{statusAllowed, cr3Allowed, cr4Allowed, configurationsAllowed, modeRegisterAllowed}
@@ -25,7 +24,7 @@ use Rattle.places.specs.Places.{readSpan, writeSpan, placeIn}
 use Rattle.places.specs.Protection.{shutMemory, sectionShut, protectedOf, areaProtectedOf}
 use Rattle.paper.specs.InForce.{asleepFor, refusedAt, stopped, decided, commandClocks, wiresFor, addressClocks, waitClocks, bodyFor}
 use Rattle.paper.specs.Underway.{kindAt, countsAt, numberReached, reached, factless, underwayValid, validOf}
-use Rattle.paper.specs.Storing.{Lent, protectedAt, putAt, allShut, takeAll}
+use Rattle.paper.specs.Storing.{protectedAt, putAt, allShut, takeAll}
 use Rattle.paper.specs.Driving.{byteRead, levelAt}
 use Rattle.paper.specs.Answers.{judge, unarmed}
 use Rattle.paper.specs.Transaction.{World, sizedFor, roomFor, roomAfter, sampled, over, transactOf, powerOf}
@@ -34,7 +33,6 @@ use Rattle.machine_phases.specs.Machine.{toData, toWait, toAddress, commandStep
 use Rattle.machine_end.specs.Finish.{outcomeOf, finishOf}
 use Rattle.machine_chunks.specs.Chunks.{phaseBy, resumeOf, opcodeAfter, openOf, feedOf, closeOf}
 use Rattle.demand_3.specs.Episodes.{Chip, Call, leaves}
-use Rattle.demand_3.specs.Programs.{joined}
 use Rattle.chunks.specs.Chunks.{fed, afterFeeds, outputs, opened}
 use Rattle.paper.specs.ExamplesOpen.{facts}
 

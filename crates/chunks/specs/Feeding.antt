@@ -1,20 +1,19 @@
 -- A CHUNK MORE: the record that open and feed leave holds the facts of all samples so far, and the machine goes on as over the whole. Document 02, P1.
 -- Assumes nothing.
 use mathlib.Core.Path.{_≡_, refl, sym, ap, _∙_}
-use Prim.Native.Nat.{ℕ, _+_, _-_, _%_, _<_, _≤_}
+use Prim.Native.Nat.{ℕ, _+_, _-_, _%_, _<_}
 use native.Mathlib.Omega.{arith}
 use mathlib.Core.Bool.{Bool, true, false, cond}
-use mathlib.Core.List.{List, [], _∷_, _++_, append-nil, append-assoc}
+use mathlib.Core.List.{List, [], _++_}
 use lib.Dec.{leb}
-use lib.ListN.{length, take, drop, length-append}
-use lib.Seq.{take-all, take-append-le, take-append-add, take-at, drop-at}
+use lib.ListN.{length, take, length-append}
+use lib.Seq.{take-all, take-append-le, take-append-add}
 use borrow.Author.Tests.{leb-true, leb-false, le-leb, lt-leb}
-use Rattle.units.specs.declared.Clocks.{Clocks}
-use Rattle.units.specs.Units.{clocks, less, atMost, perByte}
+use Rattle.units.specs.Units.{clocks, perByte}
 use Rattle.units.specs.Laws.{perByte-pos}
 use Rattle.wires.specs.Bits.{gatherFrom, gather}
 use Rattle.wires.specs.Laws.{gather-append}
-use Rattle.counts.specs.Counts.{noCounts, total}
+use Rattle.counts.specs.Counts.{noCounts}
 use Rattle.counts.specs.declared.Counts.{Counts}
 use Rattle.progress.specs.declared.Progress.{Progress}
 use Rattle.progress.specs.Progress.{beginOf}
@@ -24,20 +23,20 @@ use Rattle.record.specs.declared.devices.Underway.{Underway}
 use Rattle.record.specs.declared.devices.Device.{Device}
 use Rattle.record.specs.declared.devices.Setting.{Setting}
 use Rattle.record.specs.Devices.{settingOf}
-use Rattle.record.specs.Fields.{noUnderway, justOpen, underwayTo, openedOf, closedOf}
+use Rattle.record.specs.Fields.{noUnderway, underwayTo, openedOf, closedOf}
 use Rattle.paper.specs.InForce.{commandClocks}
-use Rattle.paper.specs.Reading.{first, many, full, readingOf}
+use Rattle.paper.specs.Reading.{first, full, readingOf}
 use Rattle.paper.specs.Storing.{Lent}
 use Rattle.paper.specs.Transaction.{World, over, clockedOf}
 use Rattle.paper.specs.Meanwhile.{pendingIn, underwayOf}
 use Rattle.contract_words.specs.Words.{Run, begun}
 use Rattle.machine_phases.specs.Machine.{runOf, outsOf}
-use Rattle.machine_phases.specs.RunLaws.{run-append, outs-append, outs-length}
+use Rattle.machine_phases.specs.RunLaws.{run-append}
 use Rattle.machine_end.specs.Finish.{finishOf}
 use Rattle.machine_bridge.specs.Bridge.{bridge}
-use Rattle.machine_chunks.specs.Chunks.{resumeOf, resumed, opcodeAfter, pausedOf, fedTo, runOn, outsOn, fedWorld}
+use Rattle.machine_chunks.specs.Chunks.{resumeOf, resumed, opcodeAfter, pausedOf, runOn, outsOn, fedWorld}
 use Rattle.machine_chunks.specs.Laws.{split-total}
-use Rattle.demand_3.specs.Episodes.{Chip, Call, leaves}
+use Rattle.demand_3.specs.Episodes.{Chip, leaves}
 use Rattle.chunks.specs.Standing.{command-byte, full-first, standing}
 
 -- ---- putting down what was taken up

@@ -1,7 +1,7 @@
 -- NO FACT HAS BITS THAT HAVE NOT COME: the facts of any samples pass the state check. Document 02, P1.
 -- Assumes nothing.
-use mathlib.Core.Path.{_≡_, refl, sym, ap, _∙_}
-use Prim.Native.Nat.{ℕ, zero, suc, _+_, _-_, _*_, _/_, _%_, _^_, _<_, _≤_}
+use mathlib.Core.Path.{_≡_, refl, ap, _∙_}
+use Prim.Native.Nat.{ℕ, zero, suc, _+_, _-_, _*_, _/_, _%_, _≤_}
 use native.Mathlib.Nat.{mul-le-mul-left, le-trans, add-zero}
 use native.Mathlib.Numerals.{add-one}
 use native.Mathlib.Omega.{arith}
@@ -16,9 +16,8 @@ use Rattle.units.specs.declared.Clocks.{Clocks}
 use Rattle.units.specs.declared.Bytes.{Bytes}
 use Rattle.units.specs.declared.Wires.{Wires}
 use Rattle.units.specs.declared.Wires.the-variants.{One, Two, Four}
-use Rattle.units.specs.Units.{clocks, bytes, atMost, longest, wiresOf, perByte, clocksOf, wholeOf, unfinishedOf, bitsIn}
-use Rattle.units.specs.Laws.{bits-of-byte, perByte-pos}
-use Rattle.wires.specs.Bits.{gatherFrom, gather, fitsIn}
+use Rattle.units.specs.Units.{clocks, bytes, wiresOf, perByte, wholeOf, unfinishedOf}
+use Rattle.wires.specs.Bits.{gather, fitsIn}
 use Rattle.wires.specs.Laws.{gather-lt, lt-fits, zero-fits}
 use Rattle.kinds.specs.declared.Kind.{Kind}
 use Rattle.commands.specs.declared.plans.Address.{Address}
@@ -28,9 +27,9 @@ use Rattle.commands.specs.declared.plans.Body.the-variants.{Nothing, FixedRead,
 use Rattle.commands.specs.Plans.{addressOf, writes}
 use Rattle.record.specs.declared.devices.Setting.{Setting}
 use Rattle.state_check.specs.States.{zeros}
-use Rattle.paper.specs.InForce.{stopped, addressLength, commandClocks, wiresFor, addressClocks, waitClocks, bodyFor}
-use Rattle.paper.specs.Reading.{first, many, full, addressRead, Reading, readingOf, countsIn, dataBytes}
-use Rattle.paper.specs.Underway.{kindAt, countsAt, spelling, begunIn, keptIn, numberReached, reached}
+use Rattle.paper.specs.InForce.{stopped, addressLength, commandClocks, wiresFor, addressClocks}
+use Rattle.paper.specs.Reading.{first, many, full, addressRead, Reading, readingOf, dataBytes}
+use Rattle.paper.specs.Underway.{spelling, begunIn, keptIn, numberReached, reached}
 use Rattle.paper.specs.Storing.{valueByte, takeAll}
 use Rattle.paper.specs.Transaction.{sentBytes, bodyIn, factsOf}
 use Rattle.paper.specs.Meanwhile.{pendingIn, underwayOf}

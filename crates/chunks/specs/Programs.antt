@@ -1,10 +1,10 @@
--- DEMANDS 2 AND 3 FOR TRANSACTIONS FED IN CHUNKS, once closed. The calls are known here by their contracts alone. Document 02, P1, next to last sentence before the refusals.
+-- DEMANDS 2 AND 3 FOR TRANSACTIONS FED IN CHUNKS, once closed. The calls are known here by their contracts alone. Document 02, P1, the last sentence before the refusals.
 -- Assumes nothing.
 use mathlib.Core.Path.{_≡_, refl, sym, ap, subst, _∙_}
-use Prim.Native.Nat.{ℕ, _+_, _≤_}
+use Prim.Native.Nat.{ℕ, _≤_}
 use native.Mathlib.Nat.{le-refl}
 use native.Mathlib.Omega.{arith}
-use mathlib.Core.Bool.{Bool, true, false}
+use mathlib.Core.Bool.{true}
 use mathlib.Core.List.{List, [], _∷_, _++_, map, List·Permᴰ, Pairwise}
 use lib.ListN.{length, take, drop, length-append, length-drop, length-replicate}
 use borrow.Author.Tests.{le-leb}
@@ -12,7 +12,6 @@ use lib.Seq.{take-at, take-add, take-all, length-take-le}
 use Rattle.units.specs.declared.Clocks.{Clocks}
 use Rattle.units.specs.Units.{clocks, wiresOf}
 use Rattle.commands.specs.Plans.{reads}
-use Rattle.record.specs.declared.answers.Answer.{Answer}
 use Rattle.record.specs.declared.answers.Answer.the-variants.{Done}
 use Rattle.record.specs.declared.devices.Device.{Device}
 use Rattle.record.specs.declared.devices.Outcome.{Outcome}
@@ -36,21 +35,27 @@ use Rattle.demand_1_2.specs.Kept.{transact-kept, transact-underway}
 use Rattle.demand_1_2.specs.Meant.{Spelled, Meant, Lendable, sent, wiresIn, bodyMeant, bytesRead, faultless}
 use Rattle.demand_1_2.specs.Answered.{sent-told}
 use Rattle.demand_1_2.specs.Understood.{Understood}
-use Rattle.demand_2_driver.specs.Driver.{Driven, Served, served}
+use Rattle.demand_2_driver.specs.Driver.{Driven, served}
 use Rattle.demand_3.specs.Steps.{Every}
-use Rattle.demand_3.specs.Episodes.{Chip, Call, Reply, leaves, fitted, samplesOf, clocked, Roomy, RoomFor, Episode, Apart, Ready}
+use Rattle.demand_3.specs.Episodes.{Chip, Call, Reply, leaves, fitted, clocked, Roomy, RoomFor, Episode, Apart, Ready}
 use Rattle.demand_3.specs.Programs.{Made, joined, Agree, any-program}
 use Rattle.demand_3.specs.Programs.Made.{ended, call}
 use Rattle.chunks.specs.Feeding.{Left, left}
+use Rattle.chunks.specs.Promises.{feed-refused}
 use Rattle.chunks.specs.Chunks.{afterFeeds, outputs, Unrefused, together, shared, Idle, opened, InChunks, chunks}
 
--- ---- a transaction in chunks that a program made: each call keeps to its contract, and each feed was answered 0
+-- ---- a transaction in chunks that a program made: each call keeps to its contract; the chunks are those that were answered 0
 pub data Feeds : Chip → List Call → List (List ℕ) → Chip → Type 0 where
   stopped : {c : Chip} → Feeds c [] [] c
   feed : {c c′ : Chip} {x : Call} {k : List Call} {os : List (List ℕ)} (o : Outcome) (memory area output : List ℕ)
       → worldOf o memory area output ≡ feedOf (c .device) (c .lent) (x .samples) (x .room) → o .answer ≡ Done
       → Feeds (record { device = o .device; lent = lends memory area }) k os c′
       → Feeds c (x ∷ k) (output ∷ os) c′
+  -- or it was refused: it left everything as it was, and is none of the chunks
+  refused : {c c′ : Chip} {k : List Call} {os : List (List ℕ)} (x : Call) (o : Outcome) (memory area output : List ℕ)
+      → worldOf o memory area output ≡ feedOf (c .device) (c .lent) (x .samples) (x .room) → refuses (o .answer) ≡ true
+      → Feeds (record { device = o .device; lent = lends memory area }) k os c′
+      → Feeds c k os c′
 
 pub record Through (c : Chip) (k : List Call) (os : List (List ℕ)) (o : Outcome) : Type 0 where
   pub begin : Outcome
@@ -75,6 +80,10 @@ feeds-end (feed {c} {c′} {x} {k} {os} o memory area output e n f) =
       gave = ap (λ (w : World). w .output ∷ outputs (leaves w) k) (sym e) ∙ ap (λ (l : List (List ℕ)). output ∷ l) (q .gave);
       calm = (ap (λ (w : World). refuses (w .answer)) (sym e) ∙ ap refuses n, subst (λ (w : World). Unrefused (leaves w) k) e (q .calm));
     }
+feeds-end (refused {c} {c′} {k} {os} x o memory area output e n f) =
+    let u = feed-refused (c .device) (c .lent) (x .samples) (x .room) (ap (λ (w : World). refuses (w .answer)) (sym e) ∙ n) in
+    let s : leaves (worldOf o memory area output) ≡ c = ap leaves e ∙ rw (u .device, u .lent) in
+    subst (λ (z : Chip). Fed z k os c′) s (feeds-end f)
 
 -- CHUNKS FOR THE PROGRAM
 module _ (c : Chip) (i : Idle c) {k : List Call} {os : List (List ℕ)} {o : Outcome} (t : Through c k os o) where

@@ -1,19 +1,17 @@
 -- KEPT, REACHED, REFUSED and EXACT ORDER for `open`, `feed` and `close`, and 13 exactly when it is said. Document 02, P1; document 01, "Answer numbers".
 -- Assumes nothing.
-use mathlib.Core.Path.{_≡_, refl, sym, ap, subst, _∙_}
+use mathlib.Core.Path.{_≡_, refl, sym, ap, _∙_}
 use Prim.Native.Nat.{ℕ, _+_, _≤_}
 use native.Mathlib.Nat.{le-refl}
 use native.Mathlib.Omega.{arith}
 use mathlib.Core.Bool.{Bool, true, false, cond, not, _&&_}
 use mathlib.Core.List.{List, [], _∷_, _++_, map}
-use lib.Dec.{leb}
 use lib.ListN.{length, length-append, length-replicate}
 use borrow.Author.Tests.{leb-true, le-leb}
 use Rattle.basis.specs.Truth.{both-true, not-untrue, untrue}
-use Rattle.basis.specs.Decisions.{firstOf, NoneHolds, first-append}
+use Rattle.basis.specs.Decisions.{firstOf, first-append}
 use Rattle.units.specs.declared.Clocks.{Clocks}
 use Rattle.units.specs.Units.{clocks, plus, atMost, longest}
-use Rattle.counts.specs.Counts.{noCounts}
 use Rattle.progress.specs.declared.Progress.{Progress}
 use Rattle.record.specs.declared.answers.Answer.{Answer}
 use Rattle.record.specs.declared.answers.Answer.the-variants.{Done, Size, Sample, State, Turn}
@@ -21,30 +19,29 @@ use Rattle.record.specs.declared.devices.Underway.{Underway}
 use Rattle.record.specs.declared.devices.Device.{Device}
 use Rattle.record.specs.Answers.{answerNumber, refuses}
 use Rattle.record.specs.Devices.{settingOf}
-use Rattle.record.specs.Fields.{noUnderway, justOpen, underwayTo, openedOf, closedOf}
-use Rattle.state_check.specs.States.{inRange}
+use Rattle.record.specs.Fields.{noUnderway, justOpen, underwayTo, closedOf}
 use Rattle.paper.specs.Reading.{many}
 use Rattle.paper.specs.Underway.{reached, factless, underwayValid, validOf}
 use Rattle.paper.specs.Storing.{Lent}
 use Rattle.paper.specs.Table.{listed}
 use Rattle.paper.specs.Answers.{tableFor, judge}
-use Rattle.paper.specs.Transaction.{World, sizedFor, roomFor, soFar, roomAfter, sampled, undriven, clockChecks, bareChecks, openChecks, feedChecks, closeChecks, transactChecks, powerChecks, clockedOf, transactOf, powerOf}
+use Rattle.paper.specs.Transaction.{World, sizedFor, roomFor, soFar, roomAfter, sampled, undriven, clockChecks, bareChecks, openChecks, feedChecks, closeChecks, transactChecks, clockedOf, transactOf, powerOf}
 use Rattle.paper.specs.CallLaws.{Untouched, refused-by, made-by, passed-by, answer-by, when-accepted, judge-refuses-none}
 use Rattle.paper.specs.Meanwhile.{underwayOf}
-use Rattle.contract_words.specs.Words.{Run, begun}
-use Rattle.machine_phases.specs.Machine.{runOf, outsOf}
+use Rattle.contract_words.specs.Words.{begun}
+use Rattle.machine_phases.specs.Machine.{runOf}
 use Rattle.machine_phases.specs.RunLaws.{outs-length}
 use Rattle.machine_end.specs.Finish.{factsIn, outcomeOf, finishOf}
 use Rattle.machine_bridge.specs.Bridge.{bridge}
 use Rattle.machine_chunks.specs.Chunks.{resumeOf, resumed, opcodeAfter, pausedOf, fedTo, runOn, outsOn, openedWorld, openOf, fedWorld, feedOf, closeOf}
-use Rattle.demand_1_2.specs.ExactOrder.{wholeTable, exact-order, power-order}
+use Rattle.demand_1_2.specs.ExactOrder.{power-order}
 use Rattle.demand_1_2.specs.Kept.{Kept, valid-range, valid-underway, untouched-kept, output-size, transact-kept}
 use Rattle.demand_3.specs.Episodes.{Chip, Call, leaves}
 use Rattle.chunks.specs.Standing.{standing}
 use Rattle.chunks.specs.Feeding.{after, fed-on, none-yet}
 use Rattle.chunks.specs.Rebuilt.{Typed, Reach, reach}
 use Rattle.chunks.specs.Runs.{run-known, run-size}
-use Rattle.chunks.specs.Chunks.{fed, afterFeeds, Unrefused, Idle, opened, opened-at, feed-made, feed-room, feed-busy, open-made, close-clear, close-made, facts-valid, closed-valid, sized-same}
+use Rattle.chunks.specs.Chunks.{fed, afterFeeds, Unrefused, Idle, opened, opened-at, feed-made, feed-room, feed-busy, close-clear, close-made, facts-valid, closed-valid, sized-same}
 
 -- ---- REFUSED: a call that is refused leaves everything as it was, and no clock of it counts
 module _ (d : Device) (l : Lent) where
@@ -188,7 +185,7 @@ fed-known : (d : Device) (l l′ : Lent) (xs : List ℕ) → fedTo d xs (runOn d
 fed-known d l l′ xs =
     ap (λ (p : Progress). underwayTo (pausedOf (opcodeAfter (settingOf d) (d .underway) xs) p) d) (run-known (closedOf d) (resumeOf (settingOf d) (d .underway)) l l′ xs)
 
-module _ (d : Device) (l : Lent) (typed : Typed (d .underway)) (v : validOf d ≡ true) (sized : sizedFor d l ≡ true) where
+module _ (d : Device) (l : Lent) (v : validOf d ≡ true) (sized : sizedFor d l ≡ true) where
   opens : Kept d l [] (openedWorld d l)
   opens =
       record {
@@ -207,6 +204,8 @@ module _ (d : Device) (l : Lent) (typed : Typed (d .underway)) (v : validOf d �
       by true e = untouched-kept d l v sized [] (openOf d l) (open-refused d l e)
       by false e = rw (open-passed d l e) opens
 
+-- of a record that holds a transaction: its facts are as the types of the code have them
+module _ (d : Device) (l : Lent) (typed : Typed (d .underway)) (v : validOf d ≡ true) (sized : sizedFor d l ≡ true) where
   module _ (xs out : List ℕ) (e : refuses (feedOf d l xs out .answer) ≡ false) where
     abbrev z : Reach (settingOf d) (d .underway)
     z = samples-for d typed v (feed-busy d l xs out e)

@@ -2,22 +2,21 @@
 -- Assumes nothing.
 use mathlib.Core.Path.{_≡_, refl, sym, ap, _∙_}
 use Prim.Native.Nat.{ℕ, zero, suc, _+_, _-_, _*_, _/_, _%_, _^_, _<_, _≤_}
-use native.Mathlib.Nat.{mul-zero, zero-mul, add-zero, zero-add, mod-lt, mul-div-cancel, le-refl, le-trans, lt-of-lt-of-le, sub-zero, div-add-mod'}
+use native.Mathlib.Nat.{add-zero, mod-lt, mul-div-cancel, div-add-mod'}
 use native.Mathlib.Omega.{arith}
-use mathlib.Core.Bool.{Bool, true, false, cond, _&&_}
+use mathlib.Core.Bool.{Bool, true, false, cond}
 use mathlib.Core.List.{List, [], _∷_, _++_, append-nil, append-assoc}
-use lib.Dec.{leb, ltb, eqb, lit≤}
-use lib.ListN.{length, take, drop, set, replicate, length-take, length-drop, length-append, length-replicate, take-append-drop, drop-of-length-le, replicate-append-replicate}
-use lib.Seq.{take-all, take-at, drop-at, take-nil, drop-nil, length-take-le}
-use borrow.Author.Tests.{leb-true, leb-false, le-leb, lt-leb, lt-ltb, le-ltb, ltb-true, ltb-false, eqb-true}
-use Rattle.basis.specs.Truth.{both-true, untrue, cond-same}
-use Rattle.units.specs.declared.Clocks.{Clocks}
+use lib.Dec.{ltb, eqb, lit≤}
+use lib.ListN.{length, take, drop, set, replicate, length-drop, length-append, length-replicate, take-append-drop, replicate-append-replicate}
+use lib.Seq.{take-all, take-at, drop-at, length-take-le}
+use borrow.Author.Tests.{ltb-true, ltb-false, eqb-true}
+use Rattle.basis.specs.Truth.{both-true}
 use Rattle.units.specs.declared.Bytes.{Bytes}
 use Rattle.units.specs.declared.Wires.{Wires}
 use Rattle.units.specs.declared.Wires.the-variants.{One, Two, Four}
-use Rattle.units.specs.Units.{clocks, bytes, less, upTo, atMost, longest, wiresOf, perByte, clocksOf, clocksWithin, wholeOf, unfinishedOf, fewerBytes, bitsIn}
-use Rattle.units.specs.Laws.{perByte-pos, bits-of-byte, within-le, lt-whole}
-use Rattle.wires.specs.Bits.{gatherFrom, gather, fitsIn, spelled}
+use Rattle.units.specs.Units.{clocks, bytes, wiresOf, perByte, clocksOf, clocksWithin, wholeOf, unfinishedOf, fewerBytes}
+use Rattle.units.specs.Laws.{perByte-pos, within-le, lt-whole}
+use Rattle.wires.specs.Bits.{gather, fitsIn, spelled}
 use Rattle.wires.specs.Laws.{fits-lt, fits-none, gather-spread, spread-length}
 use Rattle.kinds.specs.declared.Register.{Register}
 use Rattle.kinds.specs.declared.Register.the-variants as At
@@ -36,7 +35,7 @@ use Rattle.commands.specs.Plans.{writes, bodyOf, readBody, writeBody, mappedBod
 use Rattle.record.specs.declared.devices.Setting.{Setting}
 use Rattle.state_check.specs.States.{zeros}
 use Rattle.paper.specs.InForce.{decided, bodyFor}
-use Rattle.paper.specs.Reading.{many, first, after, dataPart, dataOf, bytesIn, dataBytes}
+use Rattle.paper.specs.Reading.{many, after, dataPart, dataOf, bytesIn, dataBytes}
 use Rattle.paper.specs.Underway.{begunIn, keptIn}
 use Rattle.paper.specs.Storing.{valueByte, takeAll}
 use Rattle.paper.specs.Transaction.{sampled}

@@ -1,48 +1,42 @@
 -- REACHED: the samples that leave given facts, phase by phase, the last one first. Document 02, P1.
 -- Assumes nothing.
-use mathlib.Core.Path.{_≡_, refl, sym, ap, subst, _∙_}
-use Prim.Native.Nat.{ℕ, zero, suc, _+_, _-_, _*_, _/_, _^_, _<_, _≤_}
-use native.Mathlib.Nat.{le-refl, mul-zero}
+use mathlib.Core.Path.{_≡_, refl, sym, ap, _∙_}
+use Prim.Native.Nat.{ℕ, _-_, _*_, _/_, _^_, _<_, _≤_}
+use native.Mathlib.Nat.{le-refl}
 use native.Mathlib.Omega.{arith}
-use mathlib.Core.Bool.{Bool, true, false, cond, _&&_, _||_}
-use mathlib.Core.List.{List, [], _∷_, _++_, append-nil}
-use lib.Dec.{leb, ltb}
+use mathlib.Core.Bool.{Bool, true, false, cond}
+use mathlib.Core.List.{List, [], _∷_, _++_}
+use lib.Dec.{leb}
 use lib.ListN.{length, take, drop, replicate, length-append, length-replicate, drop-of-length-le}
-use lib.Seq.{take-all, take-at, drop-at, take-nil, drop-nil}
-use borrow.Author.Tests.{leb-true, leb-false, le-leb, lt-leb, lt-ltb, le-ltb, ltb-true, ltb-false}
-use Rattle.basis.specs.Truth.{both-true, cond-same, or-right}
+use lib.Seq.{take-all, take-at, drop-at, drop-nil}
+use borrow.Author.Tests.{leb-true, leb-false, le-leb, lt-leb, lt-ltb, le-ltb}
+use Rattle.basis.specs.Truth.{both-true, or-right}
 use Rattle.units.specs.declared.Clocks.{Clocks}
 use Rattle.units.specs.declared.Wires.{Wires}
 use Rattle.units.specs.declared.Wires.the-variants.{One, Two, Four}
-use Rattle.units.specs.Units.{clocks, bytes, less, upTo, atMost, longest, wiresOf, perByte, wholeOf, unfinishedOf, bitsIn}
-use Rattle.units.specs.Laws.{perByte-pos, bits-of-byte}
+use Rattle.units.specs.Units.{clocks, bytes, less, upTo, atMost, longest, wiresOf, perByte, wholeOf, unfinishedOf}
 use Rattle.wires.specs.Bits.{gatherFrom, gather, fitsIn, spelled}
 use Rattle.wires.specs.Laws.{fits-lt, fits-none, gather-spread, spread-length}
 use Rattle.parts.specs.Parts.{familyOf}
 use Rattle.kinds.specs.declared.Kind.{Kind}
 use Rattle.kinds.specs.declared.Kind.the-variants.{Unknown}
-use Rattle.kinds.specs.Tests.{unknown}
 use Rattle.opcodes.specs.Opcodes.{kindOf}
 use Rattle.commands.specs.declared.plans.Body.{Body}
 use Rattle.commands.specs.declared.plans.Body.the-variants.{Nothing, FixedRead, AnyRead, FixedWrite, AnyWrite}
-use Rattle.commands.specs.Plans.{writes}
-use Rattle.counts.specs.declared.Counts.{Counts}
-use Rattle.counts.specs.Counts.{counted}
 use Rattle.record.specs.declared.devices.Underway.{Underway}
 use Rattle.record.specs.declared.devices.Setting.{Setting}
 use Rattle.state_check.specs.States.{zeros}
-use Rattle.paper.specs.InForce.{asleepFor, refusedAt, stopped, decided, commandClocks, wiresFor, addressClocks, waitClocks, bodyFor}
-use Rattle.paper.specs.Reading.{first, after, many, full, kindRead, addressRead, dataPart, dataOf, Reading, readingOf, bytesIn, dataBytes}
+use Rattle.paper.specs.InForce.{asleepFor, stopped, decided, commandClocks, wiresFor, addressClocks, waitClocks, bodyFor}
+use Rattle.paper.specs.Reading.{first, after, many, kindRead, addressRead, dataPart, dataOf, readingOf, bytesIn, dataBytes}
 use Rattle.paper.specs.Underway.{kindAt, countsAt, spelling, begunIn, keptIn, numberReached, reached}
 use Rattle.paper.specs.Storing.{valueByte, takeAll}
-use Rattle.paper.specs.Transaction.{sampled, sentBytes, bodyIn, factsOf}
+use Rattle.paper.specs.Transaction.{sampled, sentBytes, factsOf}
 use Rattle.paper.specs.Meanwhile.{pendingIn, underwayOf}
 use Rattle.paper.specs.Laws.{still}
 use Rattle.machine_bridge.specs.Phases.{data-nil}
 use Rattle.machine_chunks.specs.Laws.{data-some}
 use Rattle.demand_1_2.specs.Sent.{bytewise, sampled-append, sampled-silent, sampled-spread}
-use Rattle.chunks.specs.Standing.{leftOver, dataLeft, readNumber, full-first}
-use Rattle.chunks.specs.Feeding.{cut-number}
+use Rattle.chunks.specs.Standing.{dataLeft, readNumber}
 use Rattle.chunks.specs.Kept.{byte-bits, address-bits}
 use Rattle.chunks.specs.Reached.{DataFor, data-for, fixed-few, zeros-all}
 

@@ -1,10 +1,9 @@
 -- What a run knows does not depend on what is lent to it, and what is lent keeps its size. Document 02, P1.
 -- Assumes nothing.
-use mathlib.Core.Path.{_≡_, refl, sym, ap, _∙_}
+use mathlib.Core.Path.{_≡_, refl, ap, _∙_}
 use Prim.Native.Nat.{ℕ, _%_}
 use mathlib.Core.Bool.{Bool, true, false, cond}
 use mathlib.Core.List.{List, [], _∷_}
-use lib.ListN.{length}
 use Rattle.units.specs.declared.Bytes.{Bytes}
 use Rattle.units.specs.declared.Clocks.{Clocks}
 use Rattle.units.specs.declared.Wires.{Wires}
@@ -22,7 +21,7 @@ use Rattle.record.specs.declared.devices.Aim.{Aim}
 use Rattle.record.specs.declared.devices.Device.{Device}
 use Rattle.record.specs.Devices.{aimOf}
 use Rattle.paper.specs.InForce.{wiresFor, bodyFor}
-use Rattle.paper.specs.Storing.{Lent, storeByte}
+use Rattle.paper.specs.Storing.{Lent}
 use Rattle.contract_words.specs.Words.{Held, Taken, Run}
 use Rattle.machine_phases.specs.declared.Terms.{Terms}
 use Rattle.machine_phases.specs.Machine.{termsOf, fullAt, holds, byteFor, byteIn, lastAt, held, heldIn, dataHeld, dataStep, stepIn, stepOf, runOf}

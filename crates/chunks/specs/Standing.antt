@@ -1,10 +1,10 @@
 -- THE MACHINE STANDS WHERE THE FACTS SAY: after any samples, all that it knows follows from the facts that the paper reads off them. Document 02, P1.
 -- Assumes nothing.
 use mathlib.Core.Path.{_≡_, refl, sym, ap, _∙_}
-use Prim.Native.Nat.{ℕ, _+_, _-_, _*_, _/_, _%_, _<_, _≤_}
+use Prim.Native.Nat.{ℕ, _+_, _-_, _*_, _/_, _%_, _≤_}
 use native.Mathlib.Omega.{arith}
 use mathlib.Core.Bool.{Bool, true, false, cond}
-use mathlib.Core.List.{List, [], _∷_, _++_}
+use mathlib.Core.List.{List, [], _∷_}
 use lib.Dec.{ltb, leb}
 use lib.ListN.{length, take, drop, length-take, length-drop, length-append, drop-of-length-le}
 use lib.Seq.{drop-nil}
@@ -14,8 +14,8 @@ use Rattle.units.specs.declared.Clocks.{Clocks}
 use Rattle.units.specs.declared.Bytes.{Bytes}
 use Rattle.units.specs.declared.Wires.{Wires}
 use Rattle.units.specs.declared.Wires.the-variants.{One, Two, Four}
-use Rattle.units.specs.Units.{clocks, bytes, less, upTo, atMost, fewerBytes, perByte, clocksOf, clocksWithin, wholeOf}
-use Rattle.units.specs.Laws.{within-le, lt-whole, perByte-pos}
+use Rattle.units.specs.Units.{clocks, less, upTo, atMost, fewerBytes, perByte, clocksOf, clocksWithin, wholeOf}
+use Rattle.units.specs.Laws.{within-le, lt-whole}
 use Rattle.wires.specs.Bits.{gatherFrom, gather}
 use Rattle.wires.specs.Laws.{gather-byte}
 use Rattle.parts.specs.Parts.{familyOf}
@@ -25,8 +25,7 @@ use Rattle.opcodes.specs.Opcodes.{kindOf}
 use Rattle.commands.specs.declared.plans.Body.{Body}
 use Rattle.commands.specs.declared.plans.Body.the-variants.{Nothing, FixedRead, AnyRead, FixedWrite, AnyWrite}
 use Rattle.commands.specs.Plans.{writes}
-use Rattle.counts.specs.declared.Counts.{Counts}
-use Rattle.counts.specs.Counts.{counted, total, restTick}
+use Rattle.counts.specs.Counts.{counted, restTick}
 use Rattle.progress.specs.declared.Phase.{Phase}
 use Rattle.progress.specs.declared.Phase.the-variants.{Command, Address, Wait, Data, Rest}
 use Rattle.progress.specs.declared.Tally.{Tally}
@@ -41,9 +40,9 @@ use Rattle.paper.specs.ReadingLaws.{data-and-rest}
 use Rattle.paper.specs.Underway.{kindAt, countsAt}
 use Rattle.paper.specs.Storing.{Lent}
 use Rattle.paper.specs.Answers.{Facts}
-use Rattle.paper.specs.Transaction.{bodyIn, factsOf}
+use Rattle.paper.specs.Transaction.{factsOf}
 use Rattle.paper.specs.Meanwhile.{pendingIn, underwayOf}
-use Rattle.contract_words.specs.Words.{Held, Taken, Run, begun}
+use Rattle.contract_words.specs.Words.{Held, Run, begun}
 use Rattle.machine_phases.specs.Machine.{termsOf, fullAt, toData, toWait, toAddress, holds, stepOf, runOf}
 use Rattle.machine_end.specs.Finish.{factsIn}
 use Rattle.machine_bridge.specs.Stage.{carried}

@@ -1,5 +1,5 @@
--- REFUSED (demand 1): a call that is answered 1, 2 or 3 changes nothing. The record, memory, area and the whole output buffer are what came in, and no clock is counted. The law is stated once for any
--- list of checks (`paper: CallLaws`, `refused-by`); a check more is a line more in a call's list.
+-- REFUSED (demand 1): a call that is refused, by 1, 2, 3 or 13, changes nothing. The record, memory, area and the whole output buffer are what came in, and no
+-- clock is counted. The law is stated once for any list of checks (`paper: CallLaws`, `refused-by`); a check more is a line more in a call's list.
 -- Assumes nothing.
 use mathlib.Core.Path.{_≡_}
 use Prim.Native.Nat.{ℕ}

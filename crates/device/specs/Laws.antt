@@ -1,4 +1,4 @@
--- Laws of the checks before a transaction.
+-- Laws of the checks before a call, and of what a chunk and a close ask and leave.
 -- Assumes nothing.
 use mathlib.Core.Path.{_≡_}
 use Prim.Native.Nat.{ℕ, _+_, _-_, _<_, _≤_}

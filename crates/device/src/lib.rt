@@ -59,7 +59,7 @@ fn so_far(u: Underway) -> Clocks
     Clocks::none()
 }
 
-// The same of a chunk, its clocks counted together with those of the chunks before it.
+// Whether the clocks of a chunk, with those of the chunks before it, are few enough, and the output has room for what it drives.
 fn has_room_after(u: Underway, samples: &[u8], output: &[u8]) -> bool
     ensures { λ r. ⌜ r ≡ roomAfter u (now (samples .entry)) (now (output .entry)) ⌝ }
 {
@@ -156,10 +156,10 @@ pub fn transact(
 pub fn open(d: Device, memory: &[u8], area: &[u8]) -> Outcome
     ensures { λ r. ⌜ worldOf r (now (memory .entry)) (now (area .entry)) [] ≡ openOf d (lends (now (memory .entry)) (now (area .entry))) ⌝ }
 {
-    let busy = d.underway.selected;
     if !is_sized(d, memory, area) {
         return unclocked(Answer::Size, d);
     }
+    let busy = d.underway.selected;
     if !underway::valid(d) {
         return unclocked(Answer::State, d);
     }

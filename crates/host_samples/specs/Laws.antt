@@ -12,7 +12,6 @@ use borrow.Author.Tests.{ltb-true, leb-true, leb-false}
 use Rattle.units.specs.declared.Clocks.{Clocks}
 use Rattle.units.specs.declared.Bytes.{Bytes}
 use Rattle.units.specs.declared.Wires.{Wires}
-use Rattle.units.specs.declared.Wires.the-variants.{One, Two, Four}
 use Rattle.units.specs.Units.{clocks, atMost, less, fewerBytes, wiresOf, perByte, clocksOf, wholeOf, clocksWithin}
 use Rattle.units.specs.Laws.{lt-whole}
 use Rattle.wires.specs.Bits.{above, spelled}

@@ -170,7 +170,7 @@ pub fn put_rule(page: &mut [u8], at: usize, v: View, samples: &[u8], a: Answer) 
         |a register must not have the value that came, and none is written.\n\
         |clocks came after the last one that the command takes.\n\
         |the transaction before was no reset enable, 66, that was answered 0.\n\
-        |the call came out of turn: a transaction is open, or none is.\n",
+        |the call came out of turn: one is open where it wants none, or none is where it wants one.\n",
         answer_number(a) as usize,
     )
 }

@@ -1,7 +1,7 @@
 -- Laws of taking up and putting down: the clocks by phase come to all clocks, and the machine stands where the facts say.
 -- Assumes nothing.
-use mathlib.Core.Path.{_≡_, refl, sym, ap, _∙_}
-use Prim.Native.Nat.{ℕ, suc, _+_, _-_, _*_, _<_, _≤_}
+use mathlib.Core.Path.{_≡_, refl, ap, _∙_}
+use Prim.Native.Nat.{ℕ, suc, _+_, _-_, _<_, _≤_}
 use native.Mathlib.Nat.{le-refl}
 use native.Mathlib.Omega.{arith}
 use native.Mathlib.Numerals.{add-one}
@@ -14,7 +14,7 @@ use borrow.Author.Tests.{ltb-true, ltb-false}
 use Rattle.units.specs.declared.Clocks.{Clocks}
 use Rattle.units.specs.declared.Bytes.{Bytes}
 use Rattle.units.specs.declared.Wires.{Wires}
-use Rattle.units.specs.Units.{clocks, less, upTo, fewerBytes, clocksOf, clocksWithin, wholeOf, perByte}
+use Rattle.units.specs.Units.{clocks, less, upTo, fewerBytes, clocksOf, clocksWithin, wholeOf}
 use Rattle.units.specs.Laws.{within-le}
 use Rattle.wires.specs.Bits.{shiftOf, gatherFrom}
 use Rattle.commands.specs.declared.plans.Body.{Body}

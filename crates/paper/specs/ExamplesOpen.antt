@@ -9,7 +9,6 @@ use Rattle.units.specs.Units.{clocks, clocksWithin}
 use Rattle.wires.specs.Bits.{fitsIn}
 use Rattle.parts.specs.declared.Part.{Part}
 use Rattle.parts.specs.declared.Part.the-variants.{M, P}
-use Rattle.parts.specs.Parts.{offered}
 use Rattle.opcodes.specs.Opcodes.{meaningOf}
 use Rattle.commands.specs.Registers.{mappedOf}
 use Rattle.record.specs.declared.devices.Underway.{Underway}

@@ -1,5 +1,4 @@
 -- The transaction that is open, as the record holds it: what its facts tell, and which facts some clocks reach. Document 02, P1 (D85, D86).
-use Prim.Native.Nat.{ℕ}
 use mathlib.Core.Bool.{Bool, cond, _&&_}
 use lib.Dec.{eqb}
 use lib.ListN.{drop}

@@ -44,8 +44,9 @@ pub struct Make {
 }
 
 // The transaction that is open, as far as its clocks have come: only what cannot be worked out from the rest of the record
-// (D85). `selected` tells that one is open, select being low. `opcode` and `address` are 0 until they are whole; `number` has the bits that have come of what is not whole yet, and
-// `value` the whole bytes of a register write. Where none is open all of it is 0.
+// (D85). `selected` tells that one is open, select being low. `opcode` and `address` are 0 until they are whole; `number` has the
+// bits that have come of what is not whole yet, and `value` the whole bytes of a register write. Where none is open all of it is
+// 0.
 pub struct Underway {
     pub selected: bool,
     pub clocks: Clocks,

@@ -169,6 +169,7 @@ fn is_factless(u: Underway) -> bool
     all_zero(value, 0)
 }
 
+// Whether the open transaction is one that some clocks reach or, with none open, there are no facts.
 fn is_underway_valid(s: Setting, u: Underway) -> bool
     requires { ⌜ s .n ≤ 24 ⌝ }
     ensures { λ r. ⌜ r ≡ underwayValid s u ⌝ }
