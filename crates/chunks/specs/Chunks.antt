@@ -31,8 +31,7 @@ use Rattle.paper.specs.Meanwhile.{underwayOf}
 use Rattle.contract_words.specs.Words.{Run, begun}
 use Rattle.machine_phases.specs.Machine.{runOf, outsOf}
 use Rattle.machine_phases.specs.RunLaws.{outs-append, outs-length, run-append}
-use Rattle.machine_end.specs.Finish.{finishOf}
-use Rattle.machine_chunks.specs.Chunks.{resumed, openedWorld, openOf, fedWorld, feedOf, closeOf}
+use Rattle.machine_chunks.specs.Chunks.{openedWorld, openOf, fedWorld, feedOf, closedWorld, closeOf}
 use Rattle.demand_1_2.specs.Kept.{SameSize, valid-range, idle-facts}
 use Rattle.demand_1_2.specs.Sent.{sampled-append}
 use Rattle.demand_3.specs.Episodes.{Chip, Call, leaves, samplesOf}
@@ -40,7 +39,7 @@ use Rattle.demand_3.specs.Programs.{joined}
 use Rattle.chunks.specs.Feeding.{left, after, fed-on, none-yet, closed-at, driven-at, lent-at}
 use Rattle.chunks.specs.Kept.{facts-reached}
 use Rattle.chunks.specs.Reached.{zeros-all}
-use Rattle.chunks.specs.Rebuilt.{Typed}
+use Rattle.chunks.specs.Typed.{Typed}
 use Rattle.chunks.specs.Runs.{run-size}
 
 -- ---- the words of the statements
@@ -77,7 +76,7 @@ module _ (d : Device) (l : Lent) (xs out : List ℕ) (e : refuses (feedOf d l xs
   unfolding feedOf
   feed-clear = passed-by d l out (feedChecks d l xs out) (fedWorld d l xs out) (refl, (refl, (refl, (refl, tt)))) e
 
-  pub feed-made : feedOf d l xs out ≡ fedWorld d l xs out
+  feed-made : feedOf d l xs out ≡ fedWorld d l xs out
   unfolding feedOf
   feed-made = made-by d l out (feedChecks d l xs out) (fedWorld d l xs out) feed-clear
 
@@ -199,18 +198,14 @@ opened c = leaves (openOf (c .device) (c .lent))
 
 -- OPEN is made where none is open
 module _ (d : Device) (l : Lent) where
-  pub open-made : sizedFor d l ≡ true → validOf d ≡ true → d .underway .selected ≡ false → openOf d l ≡ openedWorld d l
+  open-made : sizedFor d l ≡ true → validOf d ≡ true → d .underway .selected ≡ false → openOf d l ≡ openedWorld d l
   unfolding openOf
   open-made s v n = made-by d l [] (openChecks d l) (openedWorld d l) (rw s, (rw v, (n, tt)))
 
   -- and CLOSE where one is
-  pub close-made : sizedFor d l ≡ true → validOf d ≡ true → d .underway .selected ≡ true → closeOf d l ≡ finishOf (closedOf d) (resumed d l) []
+  close-made : sizedFor d l ≡ true → validOf d ≡ true → d .underway .selected ≡ true → closeOf d l ≡ closedWorld d l
   unfolding closeOf
-  close-made s v n = made-by d l [] (closeChecks d l) (finishOf (closedOf d) (resumed d l) []) (rw s, (rw v, (ap not n, tt)))
-
-  pub close-clear : refuses (closeOf d l .answer) ≡ false → NoneHolds (closeChecks d l)
-  unfolding closeOf
-  close-clear e = passed-by d l [] (closeChecks d l) (finishOf (closedOf d) (resumed d l) []) (refl, (refl, (refl, tt))) e
+  close-made s v n = made-by d l [] (closeChecks d l) (closedWorld d l) (rw s, (rw v, (ap not n, tt)))
 
 -- ---- CHUNKS: opened, fed and closed, a transaction comes to what it comes to as a whole, however its clocks are cut
 pub record InChunks (c : Chip) (k : List Call) (out : List ℕ) : Type 0 where

@@ -34,7 +34,7 @@ use Rattle.machine_phases.specs.Machine.{runOf, outsOf}
 use Rattle.machine_phases.specs.RunLaws.{run-append}
 use Rattle.machine_end.specs.Finish.{finishOf}
 use Rattle.machine_bridge.specs.Bridge.{bridge}
-use Rattle.machine_chunks.specs.Chunks.{resumeOf, resumed, opcodeAfter, pausedOf, runOn, outsOn, fedWorld}
+use Rattle.machine_chunks.specs.Chunks.{resumeOf, resumed, opcodeAfter, pausedOf, runOn, outsOn, fedWorld, closedWorld}
 use Rattle.machine_chunks.specs.Laws.{split-total}
 use Rattle.demand_3.specs.Episodes.{Chip, leaves}
 use Rattle.chunks.specs.Standing.{command-byte, full-first, standing}
@@ -145,8 +145,7 @@ module _ (d : Device) (none : d .underway ≡ noUnderway) (l : Lent) where
 
   -- AT THE END: what the close makes of it is what the whole transaction comes to, but for the output, which the chunks had
   pub closed-at : (zs out : List ℕ)
-      → let w = finishOf (closedOf (after zs .device)) (resumed (after zs .device) (after zs .lent)) [] in
-      left w ≡ left (clockedOf d l zs out)
+      → left (closedWorld (after zs .device) (after zs .lent)) ≡ left (clockedOf d l zs out)
   unfolding finishOf
   closed-at zs out =
       ap (λ (e : Device). left (finishOf e (resumed (after zs .device) (after zs .lent)) [])) back

@@ -1,6 +1,6 @@
 -- KEPT, REACHED, REFUSED and EXACT ORDER for `open`, `feed` and `close`, and 13 exactly when it is said. Document 02, P1; document 01, "Answer numbers".
 -- Assumes nothing.
-use mathlib.Core.Path.{_≡_, refl, sym, ap, _∙_}
+use mathlib.Core.Path.{_≡_, refl, sym, ap, subst, _∙_}
 use Prim.Native.Nat.{ℕ, _+_, _≤_}
 use native.Mathlib.Nat.{le-refl}
 use native.Mathlib.Omega.{arith}
@@ -9,7 +9,7 @@ use mathlib.Core.List.{List, [], _∷_, _++_, map}
 use lib.ListN.{length, length-append, length-replicate}
 use borrow.Author.Tests.{leb-true, le-leb}
 use Rattle.basis.specs.Truth.{both-true, not-untrue, untrue}
-use Rattle.basis.specs.Decisions.{firstOf, first-append}
+use Rattle.basis.specs.Decisions.{firstOf, NoneHolds, first-append}
 use Rattle.units.specs.declared.Clocks.{Clocks}
 use Rattle.units.specs.Units.{clocks, plus, atMost, longest}
 use Rattle.progress.specs.declared.Progress.{Progress}
@@ -26,22 +26,24 @@ use Rattle.paper.specs.Storing.{Lent}
 use Rattle.paper.specs.Table.{listed}
 use Rattle.paper.specs.Answers.{tableFor, judge}
 use Rattle.paper.specs.Transaction.{World, sizedFor, roomFor, soFar, roomAfter, sampled, undriven, clockChecks, bareChecks, openChecks, feedChecks, closeChecks, transactChecks, clockedOf, transactOf, powerOf}
-use Rattle.paper.specs.CallLaws.{Untouched, refused-by, made-by, passed-by, answer-by, when-accepted, judge-refuses-none}
+use Rattle.paper.specs.CallLaws.{Untouched, by-checks, refused-by, made-by, answer-by, when-accepted, judge-refuses-none}
 use Rattle.paper.specs.Meanwhile.{underwayOf}
 use Rattle.contract_words.specs.Words.{begun}
 use Rattle.machine_phases.specs.Machine.{runOf}
 use Rattle.machine_phases.specs.RunLaws.{outs-length}
 use Rattle.machine_end.specs.Finish.{factsIn, outcomeOf, finishOf}
 use Rattle.machine_bridge.specs.Bridge.{bridge}
-use Rattle.machine_chunks.specs.Chunks.{resumeOf, resumed, opcodeAfter, pausedOf, fedTo, runOn, outsOn, openedWorld, openOf, fedWorld, feedOf, closeOf}
+use Rattle.machine_chunks.specs.Chunks.{resumeOf, resumed, opcodeAfter, pausedOf, fedTo, runOn, outsOn, openedWorld, openOf, fedWorld, feedOf, closedWorld, closeOf}
 use Rattle.demand_1_2.specs.ExactOrder.{power-order}
-use Rattle.demand_1_2.specs.Kept.{Kept, valid-range, valid-underway, untouched-kept, output-size, transact-kept}
+use Rattle.demand_1_2.specs.Kept.{Kept, valid-range, valid-underway, kept-by, output-size, transact-kept, transact-underway, power-underway}
+use Rattle.demand_1_2.specs.Sent.{bytewise}
 use Rattle.demand_3.specs.Episodes.{Chip, Call, leaves}
 use Rattle.chunks.specs.Standing.{standing}
 use Rattle.chunks.specs.Feeding.{after, fed-on, none-yet}
-use Rattle.chunks.specs.Rebuilt.{Typed, Reach, reach}
+use Rattle.chunks.specs.Typed.{Typed, facts-typed}
+use Rattle.chunks.specs.Rebuilt.{Reach, reach}
 use Rattle.chunks.specs.Runs.{run-known, run-size}
-use Rattle.chunks.specs.Chunks.{fed, afterFeeds, Unrefused, Idle, opened, opened-at, feed-made, feed-room, feed-busy, close-clear, close-made, facts-valid, closed-valid, sized-same}
+use Rattle.chunks.specs.Chunks.{fed, afterFeeds, Unrefused, Idle, opened, opened-at, feed-room, feed-busy, facts-valid, closed-valid, sized-same}
 
 -- ---- REFUSED: a call that is refused leaves everything as it was, and no clock of it counts
 module _ (d : Device) (l : Lent) where
@@ -55,7 +57,7 @@ module _ (d : Device) (l : Lent) where
 
   pub close-refused : refuses (closeOf d l .answer) ≡ true → Untouched d l [] (closeOf d l)
   unfolding closeOf finishOf outcomeOf
-  close-refused = refused-by d l [] (closeChecks d l) (finishOf (closedOf d) (resumed d l) []) (judge-refuses-none (closedOf d) _)
+  close-refused = refused-by d l [] (closeChecks d l) (closedWorld d l) (judge-refuses-none (closedOf d) _)
 
   -- ---- EXACT ORDER: the answer is that of the first check that fails, and where none does 0, or of a close the answer table's
   pub open-order : openOf d l .answer ≡ firstOf Done (openChecks d l)
@@ -72,7 +74,7 @@ module _ (d : Device) (l : Lent) where
   pub close-order : closeOf d l .answer ≡ firstOf Done closeTable
   unfolding closeOf finishOf outcomeOf judge
   close-order =
-      answer-by d l [] (closeChecks d l) (finishOf (closedOf d) (resumed d l) [])
+      answer-by d l [] (closeChecks d l) (closedWorld d l)
       ∙ sym (first-append Done (closeChecks d l) (listed (tableFor (closedOf d) (factsIn (resumeOf (settingOf d) (d .underway))))))
 
   pub in-order : (xs out : List ℕ)
@@ -150,7 +152,7 @@ module _ (d : Device) (l : Lent) where
   unfolding closeOf finishOf outcomeOf
   close-turn =
       bare-just d l _ (judge (closedOf d) (factsIn (resumeOf (settingOf d) (d .underway)))) (judge-refuses-none (closedOf d) _) (not (d .underway .selected))
-      (answer-by d l [] (closeChecks d l) (finishOf (closedOf d) (resumed d l) []))
+      (answer-by d l [] (closeChecks d l) (closedWorld d l))
 
   pub feed-turn : (xs out : List ℕ) → Just (feedOf d l xs out .answer) (Clocked d l xs (roomAfter (d .underway) xs out) (not (d .underway .selected)))
   feed-turn xs out = clock-just d l _ Done refl (not (d .underway .selected)) xs (roomAfter (d .underway) xs out) (feed-order d l xs out)
@@ -160,11 +162,6 @@ module _ (d : Device) (l : Lent) where
   transact-turn xs out =
       clock-just d l _ (clockedOf d l xs out .answer) (judge-refuses-none d _) (d .underway .selected) xs (roomFor xs out)
       (answer-by d l out (transactChecks d l xs out) (clockedOf d l xs out))
-
--- an open that is not refused is made
-open-passed : (d : Device) (l : Lent) → refuses (openOf d l .answer) ≡ false → openOf d l ≡ openedWorld d l
-unfolding openOf
-open-passed d l e = made-by d l [] (openChecks d l) (openedWorld d l) (passed-by d l [] (openChecks d l) (openedWorld d l) (refl, (refl, (refl, tt))) e)
 
 -- ---- KEPT: after each call the record is valid, of the same make, and everything that was lent has its old size
 -- before the first clock
@@ -186,23 +183,36 @@ fed-known d l l′ xs =
     ap (λ (p : Progress). underwayTo (pausedOf (opcodeAfter (settingOf d) (d .underway) xs) p) d) (run-known (closedOf d) (resumeOf (settingOf d) (d .underway)) l l′ xs)
 
 module _ (d : Device) (l : Lent) (v : validOf d ≡ true) (sized : sizedFor d l ≡ true) where
-  opens : Kept d l [] (openedWorld d l)
-  opens =
-      record {
+  pub open-kept : Kept d l [] (openOf d l)
+  unfolding openOf
+  open-kept =
+      kept-by d l v sized [] (openChecks d l) (openedWorld d l)
+      (λ c. record {
         valid = rw (just-open d l) (facts-valid d [] (valid-range d v) (omega arith));
         sized = sized-same justOpen d l l (refl, refl) sized;
         make = refl;
         memory = refl;
         area = refl;
         output = refl;
-      }
+      })
 
-  pub open-kept : Kept d l [] (openOf d l)
-  open-kept = by (refuses (openOf d l .answer)) refl
-    where
-      by : (b : Bool) → refuses (openOf d l .answer) ≡ b → Kept d l [] (openOf d l)
-      by true e = untouched-kept d l v sized [] (openOf d l) (open-refused d l e)
-      by false e = rw (open-passed d l e) opens
+-- ALSO KEPT: the facts are as the types of the code have them, which the calls after it ask for
+abbrev TypedAfter : World → Type 0
+TypedAfter w = Typed (w .device .underway)
+
+pub open-typed : (d : Device) (l : Lent) → Typed (d .underway) → TypedAfter (openOf d l)
+unfolding openOf
+open-typed d l t = by-checks d l [] (openChecks d l) (openedWorld d l) TypedAfter (λ a. t) (λ c. rw (just-open d l) (facts-typed (settingOf d) []))
+
+pub transact-typed : (d : Device) (l : Lent) (xs out : List ℕ) → validOf d ≡ true → Typed (d .underway) → TypedAfter (transactOf d l xs out)
+transact-typed d l xs out v t = rw (transact-underway d l xs out v) t
+
+pub power-typed : (d : Device) (l : Lent) → validOf d ≡ true → Typed (d .underway) → TypedAfter (powerOf d l)
+power-typed d l v t = rw (power-underway d l v) t
+
+none-typed : Typed noUnderway
+unfolding bytewise
+none-typed = record { places = refl; bytes = refl }
 
 -- of a record that holds a transaction: its facts are as the types of the code have them
 module _ (d : Device) (l : Lent) (typed : Typed (d .underway)) (v : validOf d ≡ true) (sized : sizedFor d l ≡ true) where
@@ -246,12 +256,19 @@ module _ (d : Device) (l : Lent) (typed : Typed (d .underway)) (v : validOf d �
           output = output-size d l v sized xs (outsOn d l xs) out (outs-length (closedOf d) (resumed d l) xs) (room-so .1);
         }
 
+  made-so : (xs out : List ℕ) → NoneHolds (feedChecks d l xs out) → refuses (feedOf d l xs out .answer) ≡ false
+  unfolding feedOf
+  made-so xs out c = ap (λ (w : World). refuses (w .answer)) (made-by d l out (feedChecks d l xs out) (fedWorld d l xs out) c)
+
   pub feed-kept : (xs out : List ℕ) → Kept d l out (feedOf d l xs out)
-  feed-kept xs out = by (refuses (feedOf d l xs out .answer)) refl
-    where
-      by : (b : Bool) → refuses (feedOf d l xs out .answer) ≡ b → Kept d l out (feedOf d l xs out)
-      by true e = untouched-kept d l v sized out (feedOf d l xs out) (feed-refused d l xs out e)
-      by false e = rw (feed-made d l xs out e) (feeds xs out e)
+  unfolding feedOf
+  feed-kept xs out = kept-by d l v sized out (feedChecks d l xs out) (fedWorld d l xs out) (λ c. feeds xs out (made-so xs out c))
+
+  pub feed-typed : (xs out : List ℕ) → TypedAfter (feedOf d l xs out)
+  unfolding feedOf
+  feed-typed xs out =
+      by-checks d l out (feedChecks d l xs out) (fedWorld d l xs out) TypedAfter (λ a. typed)
+      (λ c. let e = made-so xs out c in subst (λ (f : Device). Typed (f .underway)) (sym (record-so xs out e)) (facts-typed (settingOf d) (z xs out e .samples ++ xs)))
 
   -- a close leaves the record that the whole transaction leaves
   module _ (busy : d .underway .selected ≡ true) where
@@ -273,7 +290,7 @@ module _ (d : Device) (l : Lent) (typed : Typed (d .underway)) (v : validOf d �
           turn = refl;
         })
 
-    pub close-device : finishOf (closedOf d) (resumed d l) [] .device ≡ transactOf (closedOf d) l (y .samples) (undriven (y .samples)) .device
+    pub close-device : closedWorld d l .device ≡ transactOf (closedOf d) l (y .samples) (undriven (y .samples)) .device
     unfolding finishOf
     close-device =
         let s = settingOf d in
@@ -281,7 +298,7 @@ module _ (d : Device) (l : Lent) (typed : Typed (d .underway)) (v : validOf d �
         ∙ ap (λ (p : Progress). outcomeOf (closedOf d) p .device) (sym (standing (closedOf d) l (y .samples)))
         ∙ ap (λ (w : World). w .device) (bridge (closedOf d) l (y .samples) (undriven (y .samples)) ∙ sym whole-so)
 
-    closes : Kept d l [] (finishOf (closedOf d) (resumed d l) [])
+    closes : Kept d l [] (closedWorld d l)
     unfolding finishOf sizedFor
     closes =
         let k = transact-kept (closedOf d) l (closed-valid d v) base-sized (y .samples) (undriven (y .samples)) in
@@ -296,11 +313,17 @@ module _ (d : Device) (l : Lent) (typed : Typed (d .underway)) (v : validOf d �
         }
 
   pub close-kept : Kept d l [] (closeOf d l)
-  close-kept = by (refuses (closeOf d l .answer)) refl
-    where
-      by : (b : Bool) → refuses (closeOf d l .answer) ≡ b → Kept d l [] (closeOf d l)
-      by true e = untouched-kept d l v sized [] (closeOf d l) (close-refused d l e)
-      by false e = let t = not-untrue _ (close-clear d l e .1 .1 .0) in rw (close-made d l sized v t) (closes t)
+  unfolding closeOf
+  close-kept = kept-by d l v sized [] (closeChecks d l) (closedWorld d l) (λ c. closes (not-untrue _ (c .1 .1 .0)))
+
+  pub close-typed : TypedAfter (closeOf d l)
+  unfolding closeOf
+  close-typed =
+      by-checks d l [] (closeChecks d l) (closedWorld d l) TypedAfter (λ a. typed)
+      (λ c.
+      let b = not-untrue _ (c .1 .1 .0) in
+      let xs = y b .samples in
+      rw (close-device b, transact-underway (closedOf d) l xs (undriven xs) (closed-valid d v)) none-typed)
 
 -- ---- REACHED: every valid record with a transaction open is left by a chunk fed to the same record with none open, and so by some chunks
 pub record ReachedBy (d : Device) (l : Lent) : Type 0 where

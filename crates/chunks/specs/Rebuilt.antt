@@ -38,6 +38,7 @@ use Rattle.machine_chunks.specs.Laws.{data-some}
 use Rattle.demand_1_2.specs.Sent.{bytewise, sampled-append, sampled-silent, sampled-spread}
 use Rattle.chunks.specs.Standing.{dataLeft, readNumber}
 use Rattle.chunks.specs.Kept.{byte-bits, address-bits}
+use Rattle.chunks.specs.Typed.{Typed}
 use Rattle.chunks.specs.Reached.{DataFor, data-for, fixed-few, zeros-all}
 
 -- the value that the samples leave, from the data on and from the address on
@@ -166,11 +167,6 @@ kept-none (FixedRead m) = refl
 kept-none AnyRead = refl
 kept-none (FixedWrite m) = refl
 kept-none AnyWrite = refl
-
--- what the code's types say of the facts: the value has eight places, each a byte
-pub record Typed (u : Underway) : Type 0 where
-  pub places : length (u .value) ≡ 8
-  pub bytes : bytewise (u .value) ≡ true
 
 -- THE SAMPLES that leave the facts
 pub record Reach (s : Setting) (u : Underway) : Type 0 where

@@ -12,6 +12,7 @@ use lib.Dec.{eqb, ltb}
 use lib.ListN.{length, getD, set, drop, length-set, length-append, length-drop, length-replicate}
 use borrow.Author.Tests.{lt-ltb, ltb-true, leb-true, eqb-true, eq-eqb}
 use Rattle.basis.specs.Truth.{both-true, untrue, not-untrue}
+use Rattle.basis.specs.Decisions.{NoneHolds}
 use Rattle.basis.specs.Rows.{eachRow, either-passes, look-passes}
 use Rattle.units.specs.declared.Bytes.{Bytes}
 use Rattle.units.specs.declared.Wires.{Wires}
@@ -33,6 +34,7 @@ use Rattle.kinds.specs.declared.Kind.the-variants.{Unknown, Plain, Read, Write}
 use Rattle.opcodes.specs.Opcodes.{Meaning, rowsOf, noMeaning, meaningOf, inModes, kindOf}
 use Rattle.commands.specs.declared.plans.Body.{Body}
 use Rattle.commands.specs.declared.plans.Body.the-variants.{Nothing, FixedRead, AnyRead, FixedWrite, AnyWrite}
+use Rattle.record.specs.declared.answers.Answer.{Answer}
 use Rattle.record.specs.declared.devices.Registers.{Registers}
 use Rattle.record.specs.declared.devices.Identities.{Identities}
 use Rattle.record.specs.declared.devices.Make.{Make}
@@ -40,7 +42,7 @@ use Rattle.record.specs.declared.devices.Underway.{Underway}
 use Rattle.record.specs.declared.devices.Device.{Device}
 use Rattle.record.specs.declared.devices.Setting.{Setting}
 use Rattle.record.specs.declared.devices.Aim.{Aim}
-use Rattle.record.specs.Answers.{isDone, refuses}
+use Rattle.record.specs.Answers.{isDone}
 use Rattle.record.specs.Devices.{settingOf, aimOf}
 use Rattle.record.specs.Fields.{armTo, modeTo, sleepTo, noUnderway}
 use Rattle.record.specs.Fresh.{freshVolatile, freshModeRegister, freshRegisters, freshIdentity, freshOf}
@@ -56,9 +58,8 @@ use Rattle.paper.specs.Reading.{first, many, full, kindRead, Reading, readingOf
 use Rattle.paper.specs.Storing.{Lent, intoArea, protectedAt, putAt, storeByte, takeAll}
 use Rattle.paper.specs.Table.{by-row}
 use Rattle.paper.specs.Answers.{Facts, reservedFor, tableFor, judge}
-use Rattle.paper.specs.Transaction.{World, sizedFor, roomFor, sentBytes, bodyIn, factsOf, storedBy, outputOf, over, memoryAfter, powerChecks, poweredUp, clockedOf, transactOf, powerOf}
-use Rattle.paper.specs.CallLaws.{Untouched, passed-by, made-by, accepted, not-refused, power-refused-so}
-use Rattle.demand_1_2.specs.Refused.{refused}
+use Rattle.paper.specs.Transaction.{World, sizedFor, roomFor, sentBytes, bodyIn, factsOf, storedBy, outputOf, over, memoryAfter, refusal, guarded, transactChecks, powerChecks, poweredUp, clockedOf, transactOf, powerOf}
+use Rattle.paper.specs.CallLaws.{accepting, by-checks}
 use Rattle.demand_1_2.specs.Driven.{driven-length}
 
 -- ---- the commands of a family
@@ -450,16 +451,10 @@ pub record Kept (d : Device) (l : Lent) (out : List ℕ) (w : World) : Type 0 wh
   pub output : length (w .output) ≡ length out
 
 module _ (d : Device) (l : Lent) (v : validOf d ≡ true) (sized : sizedFor d l ≡ true) where
-  pub untouched-kept : (out : List ℕ) (w : World) → Untouched d l out w → Kept d l out w
-  untouched-kept out w u =
-      record {
-        valid = rw (u .device) v;
-        sized = rw (u .device, u .lent) sized;
-        make = ap (λ (e : Device). e .make) (u .device);
-        memory = ap (λ (k : Lent). length (k .memory)) (u .lent);
-        area = ap (λ (k : Lent). length (k .area)) (u .lent);
-        output = ap length (u .output);
-      }
+  -- of any call behind checks: a refusal leaves everything as it was
+  pub kept-by : (out : List ℕ) (cs : List (Bool × Answer)) (w : World) → (NoneHolds cs → Kept d l out w) → Kept d l out (guarded cs (refusal d l out) w)
+  kept-by out cs w =
+      by-checks d l out cs w (Kept d l out) (λ a. record { valid = v; sized = sized; make = refl; memory = refl; area = refl; output = refl })
 
   -- what the clocks drive has room in the output
   pub output-size : (xs ys out : List ℕ) → length ys ≡ length xs → atMost (many xs) (many out) ≡ true → length (over ys out) ≡ length out
@@ -488,22 +483,17 @@ module _ (d : Device) (l : Lent) (v : validOf d ≡ true) (sized : sizedFor d l 
       }
 
   pub transact-kept : (xs out : List ℕ) → Kept d l out (transactOf d l xs out)
-  transact-kept xs out = by (refuses (transactOf d l xs out .answer)) refl
-    where
-      by : (b : Bool) → refuses (transactOf d l xs out .answer) ≡ b → Kept d l out (transactOf d l xs out)
-      by true e = untouched-kept out (transactOf d l xs out) (refused d l xs out e)
-      by false e = rw (not-refused d l xs out e) (clocked-kept xs out (accepted d l xs out e .turn) (accepted d l xs out e .room))
+  unfolding transactOf
+  transact-kept xs out =
+      kept-by out (transactChecks d l xs out) (clockedOf d l xs out) (λ c. let a = accepting d l xs out c in clocked-kept xs out (a .turn) (a .room))
 
 -- and no transaction is opened by it, or closed
 pub transact-underway : (d : Device) (l : Lent) (xs out : List ℕ) → validOf d ≡ true → transactOf d l xs out .device .underway ≡ d .underway
-unfolding clockedOf factsOf readingOf
-transact-underway d l xs out v = by (refuses (transactOf d l xs out .answer)) refl
-  where
-    by : (b : Bool) → refuses (transactOf d l xs out .answer) ≡ b → transactOf d l xs out .device .underway ≡ d .underway
-    by true e = ap (λ (z : Device). z .underway) (refused d l xs out e .device)
-    by false e =
-        ap (λ (w : World). w .device .underway) (not-refused d l xs out e)
-        ∙ settled-kept d (factsOf (settingOf d) (readingOf (settingOf d) xs)) (has-read (settingOf d) (first (commandClocks (settingOf d)) xs)) (good d v) .0 .1
+unfolding transactOf clockedOf factsOf readingOf
+transact-underway d l xs out v =
+    let s = settingOf d in
+    by-checks d l out (transactChecks d l xs out) (clockedOf d l xs out) (λ w. w .device .underway ≡ d .underway) (λ a. refl)
+    (λ c. settled-kept d (factsOf s (readingOf s xs)) (has-read s (first (commandClocks s) xs)) (good d v) .0 .1)
 
 -- ---- a power cycle
 powered-kept : (p : Part) (m : Make) (u : Underway) (f : Family) (d : Device) → familyOf (partOf (d .make .part)) ≡ f → Of f p m u d → Of f p m u (poweredOf d)
@@ -517,13 +507,6 @@ memory-size : (f : Family) (xs : List ℕ) → length (memoryAfter f xs) ≡ len
 memory-size Mram xs = refl
 memory-size Psram xs = length-replicate (length xs) 0
 
--- a power cycle that is not refused is made, with none open
-power-passed : (d : Device) (l : Lent) → refuses (powerOf d l .answer) ≡ false → (powerOf d l ≡ poweredUp d l) × (d .underway .selected ≡ false)
-unfolding powerOf
-power-passed d l e =
-    let c = passed-by d l [] (powerChecks d l) (poweredUp d l) (refl, (refl, (refl, tt))) e in
-    (made-by d l [] (powerChecks d l) (poweredUp d l) c, c .1 .1 .0)
-
 up-kept : (d : Device) (l : Lent) → validOf d ≡ true → sizedFor d l ≡ true → d .underway .selected ≡ false → Kept d l [] (poweredUp d l)
 up-kept d l v sized n =
     let p = partOf (d .make .part) in
@@ -532,11 +515,15 @@ up-kept d l v sized n =
     record { valid = still-valid d _ v n g; sized = sized-again d _ l _ sized (g .0 .0) k; make = g .0 .0; memory = k .0; area = k .1; output = refl }
 
 pub power-kept : (d : Device) (l : Lent) → validOf d ≡ true → sizedFor d l ≡ true → Kept d l [] (powerOf d l)
-power-kept d l v sized = by (refuses (powerOf d l .answer)) refl
-  where
-    by : (b : Bool) → refuses (powerOf d l .answer) ≡ b → Kept d l [] (powerOf d l)
-    by true e = untouched-kept d l v sized [] (powerOf d l) (power-refused-so d l e)
-    by false e = let q = power-passed d l e in rw (q .0) (up-kept d l v sized (q .1))
+unfolding powerOf
+power-kept d l v sized = kept-by d l v sized [] (powerChecks d l) (poweredUp d l) (λ c. up-kept d l v sized (c .1 .1 .0))
+
+pub power-underway : (d : Device) (l : Lent) → validOf d ≡ true → powerOf d l .device .underway ≡ d .underway
+unfolding powerOf
+power-underway d l v =
+    let p = partOf (d .make .part) in
+    by-checks d l [] (powerChecks d l) (poweredUp d l) (λ w. w .device .underway ≡ d .underway) (λ a. refl)
+    (λ c. powered-kept p (d .make) (d .underway) (familyOf p) d refl (good d v) .0 .1)
 
 -- ---- a fresh chip is valid, whatever its make
 pub fresh-kept : (m : Make) (device unique : List ℕ) → validOf (freshOf m device unique) ≡ true

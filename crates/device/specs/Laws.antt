@@ -1,131 +1,140 @@
--- Laws of the checks before a call, and of what a chunk and a close ask and leave.
+-- Each call by the answer of its checks: refused where that answer refuses, and else made; and what the checks, passed, give to the clocks of a transaction, to
+-- those of a chunk and to a close.
 -- Assumes nothing.
-use mathlib.Core.Path.{_≡_}
-use Prim.Native.Nat.{ℕ, _+_, _-_, _<_, _≤_}
-use native.Mathlib.Nat.{le-trans}
-use native.Mathlib.Numerals.{add-one}
+use mathlib.Core.Path.{_≡_, refl}
+use Prim.Native.Nat.{ℕ, _+_, _≤_}
 use native.Mathlib.Omega.{arith}
-use mathlib.Core.Bool.{Bool, true, false, cond}
-use mathlib.Core.List.{List}
-use lib.Dec.{lit≤, leb}
-use lib.ListN.{length, getD, drop, drop-of-length-le}
-use lib.Seq.{drop-cons}
-use borrow.Author.Tests.{lt-ltb, le-ltb, leb-true, leb-false, lt-leb, le-leb}
-use Rattle.basis.specs.Truth.{both-true}
-use Rattle.parts.specs.declared.Part.{Part}
-use Rattle.parts.specs.declared.Part.the-variants.{M, P, M32}
-use Rattle.parts.specs.Parts.{partOf, knownPart, leastOf, mostOf, offered}
-use Rattle.units.specs.Units.{less, atMost, longest}
+use mathlib.Core.Bool.{Bool, true, false, not}
+use mathlib.Core.List.{List, []}
+use lib.Dec.{leb}
+use lib.ListN.{length}
+use borrow.Author.Tests.{leb-true}
+use Rattle.basis.specs.Truth.{both-true, not-untrue}
+use Rattle.basis.specs.Decisions.{firstOf, NoneHolds}
+use Rattle.units.specs.Units.{atMost, longest}
+use Rattle.parts.specs.declared.Family.{Family}
+use Rattle.parts.specs.Parts.{partOf, familyOf}
 use Rattle.counts.specs.Counts.{noCounts, total}
 use Rattle.progress.specs.declared.Progress.{Progress}
+use Rattle.record.specs.declared.answers.Answer.{Answer}
 use Rattle.record.specs.declared.answers.Answer.the-variants.{Done}
-use Rattle.record.specs.declared.devices.Underway.{Underway}
 use Rattle.record.specs.declared.devices.Device.{Device}
+use Rattle.record.specs.Answers.{refuses}
 use Rattle.record.specs.Devices.{settingOf}
 use Rattle.record.specs.Fields.{closedOf}
+use Rattle.record.specs.Resets.{poweredOf}
 use Rattle.state_check.specs.States.{inRange}
-use Rattle.paper.specs.Reading.{many}
 use Rattle.paper.specs.Underway.{reached, underwayValid, validOf}
 use Rattle.paper.specs.Storing.{Lent}
-use Rattle.paper.specs.Transaction.{sizedFor, roomFor, soFar, roomAfter, sampled}
+use Rattle.paper.specs.Transaction.{sizedFor, roomFor, soFar, roomAfter, refusal, clockChecks, bareChecks, transactChecks, powerChecks, openChecks, feedChecks, closeChecks, memoryAfter, poweredUp, clockedOf, transactOf, powerOf}
+use Rattle.paper.specs.CallLaws.{Refusing, checks-passed, checked-refused, checked-made}
 use Rattle.machine_stretches.specs.Stretches.{Passed}
-use Rattle.machine_chunks.specs.Chunks.{resumeOf, Continued, fedWorld}
+use Rattle.machine_chunks.specs.Chunks.{resumeOf, Continued, openedWorld, openOf, fedWorld, feedOf, closedWorld, closeOf}
 use Rattle.machine_chunks.specs.Laws.{split-total}
+use Rattle.device_checks.specs.Laws.{sized-reach}
 
--- no memory is larger than an address reaches
-pub most-le : (p : Part) → mostOf p ≤ 24
-most-le M = lit≤ tt
-most-le P = lit≤ tt
-most-le M32 = lit≤ tt
+-- every check refuses
+module _ (d : Device) (l : Lent) (turn : Bool) where
+  pub clock-refusing : (xs : List ℕ) (fits : Bool) → Refusing (clockChecks d l xs fits turn)
+  clock-refusing xs fits = (refl, (refl, (refl, (refl, tt))))
 
-pub offered-reach : (p : Part) (n : ℕ) → offered p n ≡ true → n ≤ 24
-unfolding offered
-offered-reach p n e = le-trans (leb-true n (mostOf p) (both-true (leb (leastOf p) n) (leb n (mostOf p)) e .1)) (most-le p)
+  pub bare-refusing : Refusing (bareChecks d l turn)
+  bare-refusing = (refl, (refl, (refl, tt)))
 
--- what the checks of sizes tell
-pub sized-reach : (d : Device) (l : Lent) → sizedFor d l ≡ true → d .make .n ≤ 24
-unfolding sizedFor
-sized-reach d l e =
-    let p = partOf (d .make .part) in
-    offered-reach p (d .make .n) (both-true (offered p (d .make .n)) _ (both-true (knownPart (d .make .part)) _ e .1) .0)
+-- ---- a call by `v`, the answer of its checks
+module _ (d : Device) (l : Lent) {v : Answer} where
+  module _ (barred : refuses v ≡ true) where
+    pub transact-refused : (xs out : List ℕ) → v ≡ firstOf Done (transactChecks d l xs out) → refusal d l out v ≡ transactOf d l xs out
+    unfolding transactOf
+    transact-refused xs out e = checked-refused d l out (transactChecks d l xs out) (clockedOf d l xs out) e barred
 
--- and all that the clocks ask
-pub passed : (d : Device) (l : Lent) (xs out : List ℕ) → sizedFor d l ≡ true → roomFor xs out ≡ true → Passed d xs out
-unfolding roomFor
-passed d l xs out s r =
-    record {
-      reach = sized-reach d l s;
-      few = leb-true (length xs) 65535 (both-true (leb (length xs) 65535) _ r .0);
-      room = leb-true (length xs) (length out) (both-true (leb (length xs) 65535) _ r .1);
-    }
+    pub power-refused : v ≡ firstOf Done (powerChecks d l) → refusal d l [] v ≡ powerOf d l
+    unfolding powerOf
+    power-refused e = checked-refused d l [] (powerChecks d l) (poweredUp d l) e barred
 
--- the last check, and what is made where it is passed
-pub turned : {A : Type 0} (x y : A) (b : Bool) → b ≡ true → x ≡ cond b x y
-turned x y b e = rw e
+    pub open-refused : v ≡ firstOf Done (openChecks d l) → refusal d l [] v ≡ openOf d l
+    unfolding openOf
+    open-refused e = checked-refused d l [] (openChecks d l) (openedWorld d l) e barred
 
-pub in-turn : {A : Type 0} (x y : A) (b : Bool) → b ≡ false → y ≡ cond b x y
-in-turn x y b e = rw e
+    pub feed-refused : (xs out : List ℕ) → v ≡ firstOf Done (feedChecks d l xs out) → refusal d l out v ≡ feedOf d l xs out
+    unfolding feedOf
+    feed-refused xs out e = checked-refused d l out (feedChecks d l xs out) (fedWorld d l xs out) e barred
 
--- ---- a chunk
--- clocks that are few enough together with those before them
-module _ (u : Underway) (xs out : List ℕ) where
-  pub after-late : atMost (soFar u) longest ≡ false → false ≡ roomAfter u xs out
+    pub close-refused : v ≡ firstOf Done (closeChecks d l) → refusal d l [] v ≡ closeOf d l
+    unfolding closeOf
+    close-refused e = checked-refused d l [] (closeChecks d l) (closedWorld d l) e barred
+
+  module _ (calm : refuses v ≡ false) where
+    pub transact-made : (xs out : List ℕ) → v ≡ firstOf Done (transactChecks d l xs out) → clockedOf d l xs out ≡ transactOf d l xs out
+    unfolding transactOf
+    transact-made xs out e =
+        checked-made d l out (transactChecks d l xs out) (clockedOf d l xs out) e (clock-refusing d l (d .underway .selected) xs (roomFor xs out)) calm
+
+    -- of this family
+    pub power-made : (f : Family) → familyOf (partOf (d .make .part)) ≡ f → v ≡ firstOf Done (powerChecks d l)
+        → record { answer = Done; counts = noCounts; device = poweredOf d; lent = record { memory = memoryAfter f (l .memory); area = l .area }; output = [] }
+        ≡ powerOf d l
+    unfolding powerOf
+    power-made f k e = rw (← k) (checked-made d l [] (powerChecks d l) (poweredUp d l) e (bare-refusing d l (d .underway .selected)) calm)
+
+    pub open-made : v ≡ firstOf Done (openChecks d l) → openedWorld d l ≡ openOf d l
+    unfolding openOf
+    open-made e = checked-made d l [] (openChecks d l) (openedWorld d l) e (bare-refusing d l (d .underway .selected)) calm
+
+    pub feed-made : (xs out : List ℕ) → v ≡ firstOf Done (feedChecks d l xs out) → fedWorld d l xs out ≡ feedOf d l xs out
+    unfolding feedOf
+    feed-made xs out e =
+        checked-made d l out (feedChecks d l xs out) (fedWorld d l xs out) e (clock-refusing d l (not (d .underway .selected)) xs (roomAfter (d .underway) xs out)) calm
+
+    pub close-made : v ≡ firstOf Done (closeChecks d l) → closedWorld d l ≡ closeOf d l
+    unfolding closeOf
+    close-made e = checked-made d l [] (closeChecks d l) (closedWorld d l) e (bare-refusing d l (not (d .underway .selected))) calm
+
+-- ---- what the clocks ask, where the answer of the checks refuses nothing
+module _ (d : Device) (l : Lent) {v : Answer} (calm : refuses v ≡ false) where
+  pub transact-passed : (xs out : List ℕ) → v ≡ firstOf Done (transactChecks d l xs out) → Passed d xs out
+  unfolding roomFor
+  transact-passed xs out e =
+      let c = checks-passed (transactChecks d l xs out) (clock-refusing d l (d .underway .selected) xs (roomFor xs out)) e calm in
+      let b = both-true (sizedFor d l) (roomFor xs out) (not-untrue _ (c .0)) in
+      let r = both-true (leb (length xs) 65535) (leb (length xs) (length out)) (b .1) in
+      record { reach = sized-reach d l (b .0); few = leb-true (length xs) 65535 (r .0); room = leb-true (length xs) (length out) (r .1) }
+
+  pub feed-passed : (xs out : List ℕ) → v ≡ firstOf Done (feedChecks d l xs out)
+      → (d .make .n ≤ 24) × ((d .underway .clocks .0 + length xs ≤ 65535) × (length xs ≤ length out))
   unfolding roomAfter
-  after-late e = let h = leb-false (soFar u .0) 65535 e in rw (lt-leb (soFar u .0 + length xs) 65535 (omega arith))
+  feed-passed xs out e =
+      let u = d .underway in
+      let c = checks-passed (feedChecks d l xs out) (clock-refusing d l (not (u .selected)) xs (roomAfter u xs out)) e calm in
+      let b = both-true (sizedFor d l) (roomAfter u xs out) (not-untrue _ (c .0)) in
+      let r = both-true (leb (soFar u .0 + length xs) 65535) (leb (length xs) (length out)) (b .1) in
+      let f = leb-true (soFar u .0 + length xs) 65535 (r .0) in
+      (sized-reach d l (b .0), (rw (not-untrue (u .selected) (c .1 .1 .1 .0)) at f, leb-true (length xs) (length out) (r .1)))
 
-  pub after-many : atMost (many xs) (less longest (soFar u)) ≡ false → atMost (soFar u) longest ≡ true → false ≡ roomAfter u xs out
-  unfolding roomAfter
-  after-many e f =
-      let h = leb-false (length xs) (65535 - soFar u .0) e in
-      let g = leb-true (soFar u .0) 65535 f in
-      rw (lt-leb (soFar u .0 + length xs) 65535 (omega arith))
+  -- a valid record has few enough clocks of the transaction that it holds
+  module _ (e : v ≡ firstOf Done (closeChecks d l)) where
+    close-clear : NoneHolds (closeChecks d l)
+    close-clear = checks-passed (closeChecks d l) (bare-refusing d l (not (d .underway .selected))) e calm
 
-  pub after-few : atMost (many xs) (less longest (soFar u)) ≡ true → atMost (soFar u) longest ≡ true → atMost (many xs) (many out) ≡ roomAfter u xs out
-  unfolding roomAfter
-  after-few e f =
-      let h = leb-true (length xs) (65535 - soFar u .0) e in
-      let g = leb-true (soFar u .0) 65535 f in
-      rw (le-leb (soFar u .0 + length xs) 65535 (omega arith))
+    pub close-reach : d .make .n ≤ 24
+    close-reach = sized-reach d l (not-untrue _ (close-clear .0))
 
--- all that the clocks of a chunk ask
-pub chunk-passed : (d : Device) (l : Lent) (xs out : List ℕ) → sizedFor d l ≡ true → roomAfter (d .underway) xs out ≡ true → d .underway .selected ≡ true
-    → (d .make .n ≤ 24) × ((d .underway .clocks .0 + length xs ≤ 65535) × (length xs ≤ length out))
-unfolding roomAfter
-chunk-passed d l xs out s r e =
-    let b = both-true (leb (soFar (d .underway) .0 + length xs) 65535) _ r in
-    let f = leb-true (soFar (d .underway) .0 + length xs) 65535 (b .0) in
-    (sized-reach d l s, (rw e at f, leb-true (length xs) (length out) (b .1)))
+    close-few : d .underway .clocks .0 ≤ 65535
+    unfolding validOf underwayValid reached
+    close-few =
+        let s = both-true (inRange d) (underwayValid (settingOf d) (d .underway)) (not-untrue _ (close-clear .1 .0)) in
+        let b = rw (not-untrue (d .underway .selected) (close-clear .1 .1 .0)) at (s .1) in
+        leb-true (d .underway .clocks .0) 65535 (both-true (atMost (d .underway .clocks) longest) _ b .0)
 
--- what a chunk leaves
+    pub close-passed : {c : Device} {p : Progress} → c ≡ closedOf d → p ≡ resumeOf (settingOf d) (d .underway)
+        → (c .make .n ≤ 24) × (total (p .tally .counts) .0 ≤ 65535)
+    unfolding resumeOf
+    close-passed c r =
+        let h = close-few in
+        let k = split-total (settingOf d) (d .underway) in
+        (rw c close-reach, rw r (omega arith))
+
+-- ---- what a chunk leaves
 pub fed-world : {d : Device} {l : Lent} {xs out : List ℕ} {d′ : Device} {l′ : Lent} {out′ : List ℕ} → Continued d l xs out d′ l′ out′
     → record { answer = Done; counts = noCounts; device = d′; lent = l′; output = out′ } ≡ fedWorld d l xs out
 fed-world c = rw (c .device, c .lent, c .output)
-
--- an open transaction that is valid has few enough clocks
-pub open-few : (d : Device) → validOf d ≡ true → d .underway .selected ≡ true → d .underway .clocks .0 ≤ 65535
-unfolding validOf underwayValid reached
-open-few d v e =
-    let b = rw e at (both-true (inRange d) (underwayValid (settingOf d) (d .underway)) v .1) in
-    leb-true (d .underway .clocks .0) 65535 (both-true (atMost (d .underway .clocks) longest) _ b .0)
-
-pub close-few : (d : Device) → d .make .n ≤ 24 → validOf d ≡ true → d .underway .selected ≡ true → {e : Device} {p : Progress} → e ≡ closedOf d
-    → p ≡ resumeOf (settingOf d) (d .underway) → (e .make .n ≤ 24) × (total (p .tally .counts) .0 ≤ 65535)
-unfolding resumeOf
-close-few d n v o c r =
-    let h = open-few d v o in
-    let k = split-total (settingOf d) (d .underway) in
-    (rw c n, rw r (omega arith))
-
--- a scan for a sample above 15: what is left of the samples decides
-module _ (l : List ℕ) (i : ℕ) where
-  pub sampled-stop : i < length l → 16 ≤ getD l i 0 → sampled (drop i l) ≡ false
-  unfolding sampled
-  sampled-stop h n = rw (drop-cons l i 0 h, le-ltb (getD l i 0) 16 n)
-
-  pub sampled-on : i < length l → getD l i 0 < 16 → sampled (drop (i + 1) l) ≡ sampled (drop i l)
-  unfolding sampled
-  sampled-on h n = rw (add-one, drop-cons l i 0 h, lt-ltb (getD l i 0) 16 n)
-
-  pub sampled-end : length l ≤ i → sampled (drop i l) ≡ true
-  unfolding sampled
-  sampled-end h = rw (drop-of-length-le l h)

@@ -99,5 +99,8 @@ unfoldable pub feedOf : Device → Lent → List ℕ → List ℕ → World
 feedOf d l xs out = guarded (feedChecks d l xs out) (refusal d l out) (fedWorld d l xs out)
 
 -- CLOSE: the transaction is judged, and the record changes as its answer says, with none open
+abbrev pub closedWorld : Device → Lent → World
+closedWorld d l = finishOf (closedOf d) (resumed d l) []
+
 unfoldable pub closeOf : Device → Lent → World
-closeOf d l = guarded (closeChecks d l) (refusal d l []) (finishOf (closedOf d) (resumed d l) [])
+closeOf d l = guarded (closeChecks d l) (refusal d l []) (closedWorld d l)

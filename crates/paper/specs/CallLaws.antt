@@ -5,9 +5,10 @@ use Prim.Native.Nat.{ℕ}
 use mathlib.Core.Bool.{Bool, true, false, not}
 use mathlib.Core.List.{List, [], _∷_}
 use Rattle.basis.specs.Truth.{untrue, both-true, not-untrue}
-use Rattle.basis.specs.Decisions.{firstOf, leadingTo, NoneHolds, Among, no-row, by-rows, none-holds, first-map, ways-to, same-tests, tests-same, leading-back, among-all}
+use Rattle.basis.specs.Decisions.{firstOf, leadingTo, NoneHolds, Among, no-row, by-rows, none-holds, first-map, first-told, ways-to, same-tests, tests-same, leading-back, among-all}
 use Rattle.counts.specs.Counts.{noCounts}
 use Rattle.record.specs.declared.answers.Answer.{Answer}
+use Rattle.record.specs.declared.answers.Answer.the-variants.{Done}
 use Rattle.record.specs.declared.devices.Device.{Device}
 use Rattle.record.specs.Answers.{refuses}
 use Rattle.paper.specs.Underway.{validOf}
@@ -27,36 +28,55 @@ pub record Untouched (d : Device) (l : Lent) (out : List ℕ) (w : World) : Type
 abbrev pub Refusing : List (Bool × Answer) → Type 0
 Refusing cs = Among (λ v. refuses v ≡ true) cs
 
+-- where a decision among them refuses nothing, none of them holds
+barred : (cs : List (Bool × Answer)) → Refusing cs → Among (λ v. not (refuses v) ≡ false) cs
+barred [] h = tt
+barred (c ∷ cs) h = (ap not (h .0), barred cs (h .1))
+
+none-refuses : (none : Answer) (cs : List (Bool × Answer)) → Refusing cs → refuses (firstOf none cs) ≡ false → NoneHolds cs
+none-refuses none cs h e = none-holds none (λ v. not (refuses v)) cs (barred cs h) (ap not e)
+
+pub checks-passed : (cs : List (Bool × Answer)) → Refusing cs → {v : Answer} → v ≡ firstOf Done cs → refuses v ≡ false → NoneHolds cs
+checks-passed cs h e r = none-refuses Done cs h (sym (ap refuses e) ∙ r)
+
 -- ---- for any list of checks
 module _ (d : Device) (l : Lent) (out : List ℕ) (cs : List (Bool × Answer)) (w : World) where
   abbrev call : World
   call = guarded cs (refusal d l out) w
 
+  -- what is so of every refusal, and of what is made where no check fails, is so of the call
+  pub by-checks : (Q : World → Type 0) → ((v : Answer) → Q (refusal d l out v)) → (NoneHolds cs → Q w) → Q call
+  by-checks Q r m =
+      by-rows w Q (leadingTo (refusal d l out) cs) (ways-to (refusal d l out) (λ v. Unit {0}) Q (λ v t. r v) cs (among-all cs))
+      (λ c. m (same-tests (refusal d l out) cs c))
+
   -- REFUSED: a call that is refused leaves everything as it was
   pub refused-by : refuses (w .answer) ≡ false → refuses (call .answer) ≡ true → Untouched d l out call
   refused-by n =
-      by-rows w (λ u. refuses (u .answer) ≡ true → Untouched d l out u) (leadingTo (refusal d l out) cs)
-      (ways-to (refusal d l out) (λ v. Unit {0}) (λ u. refuses (u .answer) ≡ true → Untouched d l out u)
-      (λ v t e. record { counts = refl; device = refl; lent = refl; output = refl }) cs (among-all cs))
+      by-checks (λ u. refuses (u .answer) ≡ true → Untouched d l out u) (λ v e. record { counts = refl; device = refl; lent = refl; output = refl })
       (λ c e. untrue (sym n ∙ e))
 
   -- PASSED: where no check fails the call is made
   pub made-by : NoneHolds cs → call ≡ w
   made-by c = no-row w (leadingTo (refusal d l out) cs) (tests-same (refusal d l out) cs c)
 
-  -- a call that is not refused has passed
-  refusing-kept : (rs : List (Bool × Answer)) → Refusing rs → Among (λ u. not (refuses (u .answer)) ≡ false) (leadingTo (refusal d l out) rs)
-  refusing-kept [] h = tt
-  refusing-kept (r ∷ rs) h = (ap not (h .0), refusing-kept rs (h .1))
-
-  pub passed-by : Refusing cs → refuses (call .answer) ≡ false → NoneHolds cs
-  passed-by h e = same-tests (refusal d l out) cs (none-holds w (λ u. not (refuses (u .answer))) (leadingTo (refusal d l out) cs) (refusing-kept cs h) (ap not e))
-
   -- EXACT ORDER: the answer is that of the first check that fails, or the call's own
   pub answer-by : call .answer ≡ firstOf (w .answer) cs
   answer-by =
       first-map (λ (u : World). u .answer) w (leadingTo (refusal d l out) cs)
       ∙ ap (firstOf (w .answer)) (leading-back (refusal d l out) (λ u. u .answer) (λ v. refl) cs)
+
+  -- a call that is not refused has passed
+  pub passed-by : Refusing cs → refuses (call .answer) ≡ false → NoneHolds cs
+  passed-by h e = none-refuses (w .answer) cs h (sym (ap refuses answer-by) ∙ e)
+
+  -- THE CHECKS BY THEMSELVES: with the answer of the first that fails, or 0, the call is refused where that answer refuses, and else it is made
+  module _ {v : Answer} (e : v ≡ firstOf Done cs) where
+    pub checked-refused : refuses v ≡ true → refusal d l out v ≡ call
+    checked-refused r = ap (refusal d l out) e ∙ sym (first-told (refusal d l out) Done w refuses refl cs (sym (ap refuses e) ∙ r))
+
+    pub checked-made : Refusing cs → refuses v ≡ false → w ≡ call
+    checked-made h r = sym (made-by (checks-passed cs h e r))
 
 -- ---- a transaction
 -- the answer table refuses nothing
@@ -87,7 +107,7 @@ pub record Accepted (d : Device) (l : Lent) (xs out : List ℕ) : Type 0 where
   pub valid : validOf d ≡ true
   pub turn : d .underway .selected ≡ false
 
-accepting : (d : Device) (l : Lent) (xs out : List ℕ) → NoneHolds (transactChecks d l xs out) → Accepted d l xs out
+pub accepting : (d : Device) (l : Lent) (xs out : List ℕ) → NoneHolds (transactChecks d l xs out) → Accepted d l xs out
 accepting d l xs out (sizes, (levels, (state, (turn, z)))) =
     let b = both-true (sizedFor d l) (roomFor xs out) (not-untrue _ sizes) in
     record { sized = b .0; room = b .1; levels = not-untrue _ levels; valid = not-untrue _ state; turn = turn }

@@ -1,40 +1,27 @@
--- `device::close` meets its contract: each way is the first check that fails, or the end of the open transaction.
+-- `device::close` meets its contract: it is refused as the checks say, or the open transaction comes to its end.
 -- Assumes nothing.
 use mathlib.Core.Path.{sym, _∙_}
-use borrow.Author.Tests.{not-true, not-false}
-use Rattle.machine_chunks.specs.Chunks.{closeOf}
 use Rattle.machine_end.specs.Finish.{finishOf}
-use Rattle.device.specs.Laws.{sized-reach, turned, in-turn, close-few}
-use borrow.Author.Needs.{needs}
+use Rattle.device.specs.Laws.{close-refused, close-made, close-reach, close-passed}
 use Rattle.device.proofs.close.Statement.{statement}
 use Rattle.device.proofs.close.Tie as tie
 
 pub close-spec : {M : Type 1} → statement M
-unfolding closeOf finishOf
+unfolding finishOf
 close-spec =
     tie.close
     (tie.spec
-    -- is-sized-requires, unclocked-requires
-    (λ c κs. search needs) (λ c κs. search needs)
+    -- bare-requires, is-refusal-requires, unclocked-requires
+    (λ c κs. tt) (λ c κs. tt) (λ c κs. tt)
     -- returns
-    (λ c. rw (← c .before .before .is-sized .ensures, not-true (c .before .before .is-sized .result) (c .before .if1 .taken), c .unclocked .ensures))
-    -- valid-requires
-    (λ c κs. sized-reach _ _ (sym (c .before .is-sized .ensures) ∙ not-false (c .before .is-sized .result) (c .if1 .left)))
-    -- unclocked-requires-2
-    (λ c κs. search needs)
-    -- returns-2
-    (λ c. rw (← c .before .before .before .before .is-sized .ensures, not-false (c .before .before .before .before .is-sized .result) (c .before .before .before .if1 .left), ← c .before .before .valid .ensures, not-true (c .before .before .valid .result) (c .before .if2 .taken), c .unclocked2 .ensures))
-    -- unclocked-requires-3
-    (λ c κs. search needs)
-    -- returns-3
-    (λ c. rw (← c .before .before .before .before .before .before .is-sized .ensures, not-false (c .before .before .before .before .before .before .is-sized .result) (c .before .before .before .before .before .if1 .left), ← c .before .before .before .before .valid .ensures, not-false (c .before .before .before .before .valid .result) (c .before .before .before .if2 .left), c .unclocked3 .ensures) (turned _ _ _ (c .before .if3 .taken)))
+    (λ c. rw (c .unclocked .ensures) (close-refused _ _ (sym (c .before .before .is-refusal .ensures) ∙ c .before .if1 .taken) (c .before .before .before .bare .ensures)))
     -- setting-requires
-    (λ c κs. search needs)
+    (λ c κs. tt)
     -- resume-requires
-    (λ c κs. rw (c .setting .ensures) (sized-reach _ _ (sym (c .before .before .before .before .before .before .is-sized .ensures) ∙ not-false (c .before .before .before .before .before .before .is-sized .result) (c .before .before .before .before .before .if1 .left))))
+    (λ c κs. rw (c .setting .ensures) (close-reach _ _ (sym (c .before .before .is-refusal .ensures) ∙ c .before .if1 .left) (c .before .before .before .bare .ensures)))
     -- closed-requires
-    (λ c κs. search needs)
+    (λ c κs. tt)
     -- finish-requires
-    (λ c κs. close-few (c .before .before .before .before .before .before .before .before .before .before .before .before .args .d) (sized-reach _ _ (sym (c .before .before .before .before .before .before .before .before .is-sized .ensures) ∙ not-false (c .before .before .before .before .before .before .before .before .is-sized .result) (c .before .before .before .before .before .before .before .if1 .left))) (sym (c .before .before .before .before .before .before .valid .ensures) ∙ not-false (c .before .before .before .before .before .before .valid .result) (c .before .before .before .before .before .if2 .left)) (not-false _ (c .before .before .before .if3 .left)) (c .closed .ensures) (rw (c .before .before .setting .ensures) at (c .before .resume .ensures)))
-    -- returns-4
-    (λ c. rw (← c .before .before .before .before .before .before .before .before .before .is-sized .ensures, not-false (c .before .before .before .before .before .before .before .before .before .is-sized .result) (c .before .before .before .before .before .before .before .before .if1 .left), ← c .before .before .before .before .before .before .before .valid .ensures, not-false (c .before .before .before .before .before .before .before .valid .result) (c .before .before .before .before .before .before .if2 .left), c .finish .ensures, c .before .closed .ensures, c .before .before .resume .ensures, c .before .before .before .setting .ensures) (in-turn _ _ _ (c .before .before .before .before .if3 .left))))
+    (λ c κs. close-passed _ _ (sym (c .before .before .before .before .is-refusal .ensures) ∙ c .before .before .before .if1 .left) (c .before .before .before .before .before .bare .ensures) (c .closed .ensures) (rw (c .before .before .setting .ensures) at (c .before .resume .ensures)))
+    -- returns-2
+    (λ c. rw (c .finish .ensures, c .before .closed .ensures, c .before .before .resume .ensures, c .before .before .before .setting .ensures) (close-made _ _ (sym (c .before .before .before .before .before .is-refusal .ensures) ∙ c .before .before .before .before .if1 .left) (c .before .before .before .before .before .before .bare .ensures))))

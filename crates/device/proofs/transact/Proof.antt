@@ -1,43 +1,22 @@
--- `device::transact` meets its contract: each way is the first check that fails, or the clocks.
+-- `device::transact` meets its contract: it is refused as the checks say, or its clocks are run.
 -- Assumes nothing.
 use mathlib.Core.Path.{sym, _∙_}
-use borrow.Author.Tests.{not-true, not-false}
-use Rattle.paper.specs.Transaction.{transactOf}
-use Rattle.device.specs.Laws.{sized-reach, turned, in-turn, passed}
+use Rattle.device.specs.Laws.{transact-refused, transact-made, transact-passed}
 use borrow.Author.Needs.{needs}
 use Rattle.device.proofs.transact.Statement.{statement}
 use Rattle.device.proofs.transact.Tie as tie
 
 pub transact-spec : {M : Type 1} → statement M
-unfolding transactOf
 transact-spec =
     tie.close
     (tie.spec
-    -- is-sized-requires, unclocked-requires, same-length, same-length-2
-    (λ c κs. search needs) (λ c κs. search needs) (λ c. search needs) (λ c. search needs)
+    -- has-room-requires, clocked-requires, is-refusal-requires, unclocked-requires, same-length, same-length-2, same-length-3
+    (λ c κs. tt) (λ c κs. tt) (λ c κs. tt) (λ c κs. tt) (λ c. search needs) (λ c. search needs) (λ c. search needs)
     -- returns
-    (λ c. rw (← c .before .before .is-sized .ensures, not-true (c .before .before .is-sized .result) (c .before .if1 .taken), c .unclocked .ensures))
-    -- has-room-requires, unclocked-requires-2, same-length-3, same-length-4, same-length-5
-    (λ c κs. search needs) (λ c κs. search needs) (λ c. search needs) (λ c. search needs) (λ c. search needs)
-    -- returns-2
-    (λ c. rw (← c .before .before .before .before .before .is-sized .ensures, not-false (c .before .before .before .before .before .is-sized .result) (c .before .before .before .before .if1 .left), ← c .before .before .has-room .ensures, not-true (c .before .before .has-room .result) (c .before .if2 .taken), c .unclocked2 .ensures))
-    -- is-sampled-requires, unclocked-requires-3, same-length-6, same-length-7, same-length-8
-    (λ c κs. search needs) (λ c κs. search needs) (λ c. search needs) (λ c. search needs) (λ c. search needs)
-    -- returns-3
-    (λ c. rw (← c .before .before .before .before .before .before .before .is-sized .ensures, not-false (c .before .before .before .before .before .before .before .is-sized .result) (c .before .before .before .before .before .before .if1 .left), ← c .before .before .before .before .has-room .ensures, not-false (c .before .before .before .before .has-room .result) (c .before .before .before .if2 .left), ← c .before .before .is-sampled .ensures, not-true (c .before .before .is-sampled .result) (c .before .if3 .taken), c .unclocked3 .ensures))
-    -- valid-requires
-    (λ c κs. sized-reach _ _ (sym (c .before .before .before .before .before .before .is-sized .ensures) ∙ not-false (c .before .before .before .before .before .before .is-sized .result) (c .before .before .before .before .before .if1 .left)))
-    -- unclocked-requires-4, same-length-9, same-length-10, same-length-11
-    (λ c κs. search needs) (λ c. search needs) (λ c. search needs) (λ c. search needs)
-    -- returns-4
-    (λ c. rw (← c .before .before .before .before .before .before .before .before .before .is-sized .ensures, not-false (c .before .before .before .before .before .before .before .before .before .is-sized .result) (c .before .before .before .before .before .before .before .before .if1 .left), ← c .before .before .before .before .before .before .has-room .ensures, not-false (c .before .before .before .before .before .before .has-room .result) (c .before .before .before .before .before .if2 .left), ← c .before .before .before .before .is-sampled .ensures, not-false (c .before .before .before .before .is-sampled .result) (c .before .before .before .if3 .left), ← c .before .before .valid .ensures, not-true (c .before .before .valid .result) (c .before .if4 .taken), c .unclocked4 .ensures))
-    -- unclocked-requires-5, same-length-12, same-length-13, same-length-14
-    (λ c κs. search needs) (λ c. search needs) (λ c. search needs) (λ c. search needs)
-    -- returns-5
-    (λ c. rw (← c .before .before .before .before .before .before .before .before .before .before .is-sized .ensures, not-false (c .before .before .before .before .before .before .before .before .before .before .is-sized .result) (c .before .before .before .before .before .before .before .before .before .if1 .left), ← c .before .before .before .before .before .before .before .has-room .ensures, not-false (c .before .before .before .before .before .before .before .has-room .result) (c .before .before .before .before .before .before .if2 .left), ← c .before .before .before .before .before .is-sampled .ensures, not-false (c .before .before .before .before .before .is-sampled .result) (c .before .before .before .before .if3 .left), ← c .before .before .before .valid .ensures, not-false (c .before .before .before .valid .result) (c .before .before .if4 .left), c .unclocked5 .ensures) (turned _ _ _ (c .before .if5 .taken)))
-    -- clocked-requires
-    (λ c κs. passed _ _ _ _ (sym (c .before .before .before .before .before .before .before .before .before .before .before .before .is-sized .ensures) ∙ not-false (c .before .before .before .before .before .before .before .before .before .before .before .before .is-sized .result) (c .before .before .before .before .before .before .before .before .before .before .before .if1 .left)) (sym (c .before .before .before .before .before .before .before .before .before .has-room .ensures) ∙ not-false (c .before .before .before .before .before .before .before .before .before .has-room .result) (c .before .before .before .before .before .before .before .before .if2 .left)))
-    -- same-length-15, same-length-16, same-length-17
+    (λ c. rw (c .unclocked .ensures) (transact-refused _ _ (sym (c .before .before .is-refusal .ensures) ∙ c .before .if1 .taken) _ _ (rw (c .before .before .before .before .before .before .has-room .ensures) at (c .before .before .before .clocked .ensures))))
+    -- clocked-requires-2
+    (λ c κs. transact-passed _ _ (sym (c .before .before .before .before .is-refusal .ensures) ∙ c .before .before .before .if1 .left) _ _ (rw (c .before .before .before .before .before .before .before .before .has-room .ensures) at (c .before .before .before .before .before .clocked .ensures)))
+    -- same-length-4, same-length-5, same-length-6
     (λ c. search needs) (λ c. search needs) (λ c. search needs)
-    -- returns-6
-    (λ c. rw (← c .before .before .before .before .before .before .before .before .before .before .before .before .before .before .before .before .before .before .before .is-sized .ensures, not-false (c .before .before .before .before .before .before .before .before .before .before .before .before .before .before .before .before .before .before .before .is-sized .result) (c .before .before .before .before .before .before .before .before .before .before .before .before .before .before .before .before .before .before .if1 .left), ← c .before .before .before .before .before .before .before .before .before .before .before .before .before .before .before .before .has-room .ensures, not-false (c .before .before .before .before .before .before .before .before .before .before .before .before .before .before .before .before .has-room .result) (c .before .before .before .before .before .before .before .before .before .before .before .before .before .before .before .if2 .left), ← c .before .before .before .before .before .before .before .before .before .before .before .before .before .before .is-sampled .ensures, not-false (c .before .before .before .before .before .before .before .before .before .before .before .before .before .before .is-sampled .result) (c .before .before .before .before .before .before .before .before .before .before .before .before .before .if3 .left), ← c .before .before .before .before .before .before .before .before .before .before .before .before .valid .ensures, not-false (c .before .before .before .before .before .before .before .before .before .before .before .before .valid .result) (c .before .before .before .before .before .before .before .before .before .before .before .if4 .left), c .before .before .before .before .before .before .clocked .ensures) (in-turn _ _ _ (c .before .before .before .before .before .before .before .before .before .before .if5 .left))))
+    -- returns-2
+    (λ c. rw (c .before .before .before .before .before .before .clocked2 .ensures) (transact-made _ _ (sym (c .before .before .before .before .before .before .before .before .before .before .before .is-refusal .ensures) ∙ c .before .before .before .before .before .before .before .before .before .before .if1 .left) _ _ (rw (c .before .before .before .before .before .before .before .before .before .before .before .before .before .before .before .has-room .ensures) at (c .before .before .before .before .before .before .before .before .before .before .before .before .clocked .ensures)))))

@@ -1,8 +1,8 @@
--- `device::has_room` meets its contract: the clocks decide, and then the room.
+-- `device_checks::has_room` meets its contract: the clocks decide, and then the room.
 -- Assumes nothing.
 use Rattle.paper.specs.Transaction.{roomFor}
-use Rattle.device.proofs.has_room.Statement.{statement}
-use Rattle.device.proofs.has_room.Tie as tie
+use Rattle.device_checks.proofs.has_room.Statement.{statement}
+use Rattle.device_checks.proofs.has_room.Tie as tie
 
 pub has-room-spec : {M : Type 1} → statement M
 unfolding roomFor

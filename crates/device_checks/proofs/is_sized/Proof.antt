@@ -1,11 +1,11 @@
--- `device::is_sized` meets its contract: each way stops at the first size that is wrong; n is in range where the memory's size is asked.
+-- `device_checks::is_sized` meets its contract: each way stops at the first size that is wrong; n is in range where the memory's size is asked.
 -- Assumes nothing.
 use mathlib.Core.Path.{sym, _∙_}
 use borrow.Author.Tests.{not-true, not-false}
 use Rattle.paper.specs.Transaction.{sizedFor}
-use Rattle.device.specs.Laws.{offered-reach}
-use Rattle.device.proofs.is_sized.Statement.{statement}
-use Rattle.device.proofs.is_sized.Tie as tie
+use Rattle.device_checks.specs.Laws.{offered-reach}
+use Rattle.device_checks.proofs.is_sized.Statement.{statement}
+use Rattle.device_checks.proofs.is_sized.Tie as tie
 
 pub is-sized-spec : {M : Type 1} → statement M
 unfolding sizedFor

@@ -1,8 +1,8 @@
--- `device::so_far` meets its contract: the clocks of the one that is open.
+-- `device_checks::so_far` meets its contract: the clocks of the one that is open.
 -- Assumes nothing.
 use borrow.Author.Needs.{needs}
-use Rattle.device.proofs.so_far.Statement.{statement}
-use Rattle.device.proofs.so_far.Tie as tie
+use Rattle.device_checks.proofs.so_far.Statement.{statement}
+use Rattle.device_checks.proofs.so_far.Tie as tie
 
 pub so-far-spec : {M : Type 1} → statement M
 so-far-spec =

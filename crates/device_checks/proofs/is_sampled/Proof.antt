@@ -1,13 +1,13 @@
--- `device::is_sampled` meets its contract. The invariant: what is left of the samples decides as the whole does.
+-- `device_checks::is_sampled` meets its contract. The invariant: what is left of the samples decides as the whole does.
 -- Assumes nothing.
 use mathlib.Core.Path.{_≡_, refl, sym, _∙_}
 use Prim.Native.Nat.{_-_}
 use native.Mathlib.Omega.{arith}
 use lib.ListN.{length, drop}
 use Rattle.paper.specs.Transaction.{sampled}
-use Rattle.device.specs.Laws.{sampled-stop, sampled-on, sampled-end}
-use Rattle.device.proofs.is_sampled.Statement.{statement}
-use Rattle.device.proofs.is_sampled.Tie as tie
+use Rattle.device_checks.specs.Laws.{sampled-stop, sampled-on, sampled-end}
+use Rattle.device_checks.proofs.is_sampled.Statement.{statement}
+use Rattle.device_checks.proofs.is_sampled.Tie as tie
 
 abbrev Inv-loop : tie.InvT-loop
 Inv-loop samples i₀ i = sampled (drop i samples) ≡ sampled samples

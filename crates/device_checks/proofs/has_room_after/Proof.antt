@@ -1,11 +1,11 @@
--- `device::has_room_after` meets its contract: the clocks before, the clocks of the chunk, and then the room.
+-- `device_checks::has_room_after` meets its contract: the clocks before, the clocks of the chunk, and then the room.
 -- Assumes nothing.
 use mathlib.Core.Path.{sym, _∙_}
 use borrow.Author.Tests.{not-true, not-false}
-use Rattle.device.specs.Laws.{after-late, after-many, after-few}
+use Rattle.device_checks.specs.Laws.{after-late, after-many, after-few}
 use borrow.Author.Needs.{needs}
-use Rattle.device.proofs.has_room_after.Statement.{statement}
-use Rattle.device.proofs.has_room_after.Tie as tie
+use Rattle.device_checks.proofs.has_room_after.Statement.{statement}
+use Rattle.device_checks.proofs.has_room_after.Tie as tie
 
 pub has-room-after-spec : {M : Type 1} → statement M
 has-room-after-spec =
