@@ -86,7 +86,12 @@ module _ {A B : Type 0} (f : A → B) where
   tests-same [] c = tt
   tests-same (r ∷ rs) c = (c .0, tests-same rs (c .1))
 
-  -- a decision that is told from its default is that of the row that decided, also in what is made of it
+  -- and what is made of them is taken back
+  pub leading-back : (g : B → A) → ((v : A) → g (f v) ≡ v) → (rs : List (Bool × A)) → leadingTo g (leadingTo f rs) ≡ rs
+  leading-back g h [] = refl
+  leading-back g h (r ∷ rs) = rw (h (r .1), leading-back g h rs)
+
+  -- where the decision is not the default, as D tells, a row has decided: what f makes of the rows comes to what f makes of the decision, whatever the default
   module _ (none : A) (w : B) (D : A → Bool) (n : D none ≡ false) where
     told-step : (b : Bool) (v u : A) (x : B) → (D u ≡ true → x ≡ f u) → D (cond b v u) ≡ true → cond b (f v) x ≡ f (cond b v u)
     told-step true v u x h e = refl
@@ -95,11 +100,6 @@ module _ {A B : Type 0} (f : A → B) where
     pub first-told : (rs : List (Bool × A)) → D (firstOf none rs) ≡ true → firstOf w (leadingTo f rs) ≡ f (firstOf none rs)
     first-told [] e = untrue (sym n ∙ e)
     first-told (r ∷ rs) e = told-step (r .0) (r .1) (firstOf none rs) (firstOf w (leadingTo f rs)) (first-told rs) e
-
-  -- and what is made of them is taken back
-  pub leading-back : (g : B → A) → ((v : A) → g (f v) ≡ v) → (rs : List (Bool × A)) → leadingTo g (leadingTo f rs) ≡ rs
-  leading-back g h [] = refl
-  leading-back g h (r ∷ rs) = rw (h (r .1), leading-back g h rs)
 
 -- one list after another
 pub first-append : {A : Type 0} (none : A) (rs ss : List (Bool × A)) → firstOf none (rs ++ ss) ≡ firstOf (firstOf none ss) rs

@@ -1,15 +1,15 @@
--- CHUNKS, MEANWHILE, KEPT and REACHED: what `open`, `feed` and `close` come to in the paper's words. Document 02, P1.
+-- CHUNKS and MEANWHILE: what `open`, `feed` and `close` come to in the paper's words. Document 02, P1.
 -- Assumes nothing.
 use mathlib.Core.Path.{_≡_, refl, sym, ap, subst, _∙_}
 use Prim.Native.Nat.{ℕ, _+_, _≤_}
 use native.Mathlib.Omega.{arith}
 use mathlib.Core.Bool.{Bool, true, false, not}
 use mathlib.Core.List.{List, [], _∷_, _++_, append-nil, append-assoc}
-use lib.Dec.{leb, eqb}
+use lib.Dec.{eqb}
 use lib.ListN.{length, take, drop, length-append}
 use lib.Seq.{take-at, drop-at}
 use borrow.Author.Tests.{leb-true, le-leb, eqb-true}
-use Rattle.basis.specs.Truth.{both-true, not-untrue}
+use Rattle.basis.specs.Truth.{both-true}
 use Rattle.basis.specs.Decisions.{NoneHolds}
 use Rattle.parts.specs.declared.Family.{Family}
 use Rattle.parts.specs.declared.Family.the-variants.{Mram, Psram}
@@ -26,19 +26,20 @@ use Rattle.state_check.specs.States.{zeros, validFor, inRange}
 use Rattle.paper.specs.Underway.{factless, underwayValid, validOf}
 use Rattle.paper.specs.Storing.{Lent}
 use Rattle.paper.specs.Transaction.{World, sizedFor, roomFor, roomAfter, sampled, over, openChecks, feedChecks, closeChecks, clockedOf, transactOf}
-use Rattle.paper.specs.CallLaws.{made-by, passed-by, when-accepted}
+use Rattle.paper.specs.UnderwayLaws.{valid-range, idle-facts}
+use Rattle.paper.specs.CallLaws.{ChunkAccepted, clock-refusing, made-by, passed-by, chunk-accepting, when-accepted}
 use Rattle.paper.specs.Meanwhile.{underwayOf}
 use Rattle.contract_words.specs.Words.{Run, begun}
 use Rattle.machine_phases.specs.Machine.{runOf, outsOf}
 use Rattle.machine_phases.specs.RunLaws.{outs-append, outs-length, run-append}
 use Rattle.machine_chunks.specs.Chunks.{openedWorld, openOf, fedWorld, feedOf, closedWorld, closeOf}
-use Rattle.demand_1_2.specs.Kept.{SameSize, valid-range, idle-facts}
+use Rattle.demand_1_2.specs.Kept.{SameSize}
 use Rattle.demand_1_2.specs.Sent.{sampled-append}
 use Rattle.demand_3.specs.Episodes.{Chip, Call, leaves, samplesOf}
 use Rattle.demand_3.specs.Programs.{joined}
 use Rattle.chunks.specs.Feeding.{left, after, fed-on, none-yet, closed-at, driven-at, lent-at}
 use Rattle.chunks.specs.Kept.{facts-reached}
-use Rattle.chunks.specs.Reached.{zeros-all}
+use Rattle.chunks.specs.DataReached.{zeros-all}
 use Rattle.chunks.specs.Typed.{Typed}
 use Rattle.chunks.specs.Runs.{run-size}
 
@@ -70,24 +71,19 @@ unfoldable pub shared : List Call → List ℕ → List (List ℕ)
 shared [] ys = []
 shared (x ∷ k) ys = over (take (length (x .samples)) ys) (x .room) ∷ shared k (drop (length (x .samples)) ys)
 
--- ---- what a check passed tells
+-- ---- a chunk that is not refused is made
 module _ (d : Device) (l : Lent) (xs out : List ℕ) (e : refuses (feedOf d l xs out .answer) ≡ false) where
   feed-clear : NoneHolds (feedChecks d l xs out)
   unfolding feedOf
-  feed-clear = passed-by d l out (feedChecks d l xs out) (fedWorld d l xs out) (refl, (refl, (refl, (refl, tt)))) e
+  feed-clear =
+      passed-by d l out (feedChecks d l xs out) (fedWorld d l xs out) (clock-refusing d l (not (d .underway .selected)) xs (roomAfter (d .underway) xs out)) e
 
   feed-made : feedOf d l xs out ≡ fedWorld d l xs out
   unfolding feedOf
   feed-made = made-by d l out (feedChecks d l xs out) (fedWorld d l xs out) feed-clear
 
-  pub feed-room : roomAfter (d .underway) xs out ≡ true
-  feed-room = both-true (sizedFor d l) (roomAfter (d .underway) xs out) (not-untrue _ (feed-clear .0)) .1
-
-  feed-levels : sampled xs ≡ true
-  feed-levels = not-untrue _ (feed-clear .1 .0)
-
-  pub feed-busy : d .underway .selected ≡ true
-  feed-busy = not-untrue _ (feed-clear .1 .1 .1 .0)
+  feed-accepted : ChunkAccepted d l xs out
+  feed-accepted = chunk-accepting d l xs out feed-clear
 
 -- ---- feeding on from where some samples have come to
 module _ (d : Device) (none : d .underway ≡ noUnderway) (l : Lent) where
@@ -105,14 +101,14 @@ module _ (d : Device) (none : d .underway ≡ noUnderway) (l : Lent) where
   -- the clocks of all chunks are few, and their samples are levels
   few-on : (zs : List ℕ) (k : List Call) → length zs ≤ 65535 → sampled zs ≡ true → Unrefused (at zs) k
       → (length (zs ++ together k) ≤ 65535) × (sampled (zs ++ together k) ≡ true)
-  unfolding joined underwayOf roomAfter
+  unfolding joined underwayOf
   few-on zs [] h i u = (rw append-nil h, rw append-nil i)
   few-on zs (x ∷ k) h i (e, u) =
-      let r = feed-room (at zs .device) (at zs .lent) (x .samples) (x .room) e in
-      let f = leb-true (length zs + length (x .samples)) 65535 (both-true (leb (length zs + length (x .samples)) 65535) _ r .0) in
+      let a = feed-accepted (at zs .device) (at zs .lent) (x .samples) (x .room) e in
+      let f = leb-true (length zs + length (x .samples)) 65535 (a .few) in
       let n = length-append zs (x .samples) in
       let q = few-on (zs ++ x .samples) k (omega arith)
-      (sampled-append zs (x .samples) i (feed-levels (at zs .device) (at zs .lent) (x .samples) (x .room) e))
+      (sampled-append zs (x .samples) i (a .levels))
       (subst (λ (c : Chip). Unrefused c k) (leaves-at zs x e) u) in
       subst (λ (ys : List ℕ). (length ys ≤ 65535) × (sampled ys ≡ true)) (append-assoc zs (x .samples) (together k)) q
 
@@ -173,8 +169,8 @@ pub record Idle (c : Chip) : Type 0 where
   pub valid : validOf (c .device) ≡ true
   pub none : c .device .underway ≡ noUnderway
 
--- so has every device in a valid state with none open, as the types of the code have its facts
-pub none-open : (d : Device) → Typed (d .underway) → validOf d ≡ true → d .underway .selected ≡ false → d .underway ≡ noUnderway
+-- with none open, a record in a valid state has no facts, as the types of the code have them
+none-open : (d : Device) → Typed (d .underway) → validOf d ≡ true → d .underway .selected ≡ false → d .underway ≡ noUnderway
 unfolding factless
 none-open d t v n =
     let u = d .underway in
@@ -191,6 +187,11 @@ none-open d t v n =
     ∙ ap (λ (m : ℕ). record { selected = false; clocks = clocks 0; opcode = 0; address = m; number = u .number; value = u .value }) (eqb-true (u .address) 0 (b₃ .0))
     ∙ ap (λ (m : ℕ). record { selected = false; clocks = clocks 0; opcode = 0; address = 0; number = m; value = u .value }) (eqb-true (u .number) 0 (b₄ .0))
     ∙ ap (λ (w : List ℕ). record { selected = false; clocks = clocks 0; opcode = 0; address = 0; number = 0; value = w }) (zeros-all (u .value) 8 (t .places) (b₄ .1))
+
+-- so that sizes, a valid state and none open are enough
+pub idle-so : (c : Chip) → sizedFor (c .device) (c .lent) ≡ true → validOf (c .device) ≡ true → c .device .underway .selected ≡ false
+    → Typed (c .device .underway) → Idle c
+idle-so c s v n t = record { sized = s; valid = v; none = none-open (c .device) t v n }
 
 -- the chip once a transaction is opened
 abbrev pub opened : Chip → Chip
@@ -239,7 +240,7 @@ module _ (c : Chip) (i : Idle c) where
     abbrev xs : List ℕ
     xs = together k
 
-    pub fine : (length xs ≤ 65535) × (sampled xs ≡ true)
+    fine : (length xs ≤ 65535) × (sampled xs ≡ true)
     unfolding sampled
     fine = few-on d (i .none) l [] k (omega arith) refl from
 
@@ -247,10 +248,10 @@ module _ (c : Chip) (i : Idle c) where
     come = ap (λ (z : Chip). afterFeeds z k) opened-at ∙ feeds-at d (i .none) l [] k from
 
     -- the record meanwhile passes the checks
-    pub valid-so : validOf (after d (i .none) l xs .device) ≡ true
+    valid-so : validOf (after d (i .none) l xs .device) ≡ true
     valid-so = facts-valid d xs (valid-range d (i .valid)) (fine .0)
 
-    pub sized-so : sizedFor (after d (i .none) l xs .device) (after d (i .none) l xs .lent) ≡ true
+    sized-so : sizedFor (after d (i .none) l xs .device) (after d (i .none) l xs .lent) ≡ true
     sized-so = sized-same (underwayOf (settingOf d) xs) d l (after d (i .none) l xs .lent) (run-size d (begun l) xs) (i .sized)
 
     module _ (out : List ℕ) (room : length xs ≤ length out) where

@@ -36,11 +36,11 @@ use Rattle.machine_end.specs.Finish.{finishOf}
 use Rattle.machine_bridge.specs.Bridge.{bridge}
 use Rattle.machine_chunks.specs.Chunks.{resumeOf, resumed, opcodeAfter, pausedOf, runOn, outsOn, fedWorld, closedWorld}
 use Rattle.machine_chunks.specs.Laws.{split-total}
-use Rattle.demand_3.specs.Episodes.{Chip, leaves}
+use Rattle.demand_3.specs.Episodes.{Chip}
 use Rattle.chunks.specs.Standing.{command-byte, full-first, standing}
 
 -- ---- putting down what was taken up
-pub pause-resume : (s : Setting) (u : Underway) → u .selected ≡ true → pausedOf (u .opcode) (resumeOf s u) ≡ u
+pause-resume : (s : Setting) (u : Underway) → u .selected ≡ true → pausedOf (u .opcode) (resumeOf s u) ≡ u
 unfolding resumeOf
 pause-resume s u e =
     ap (λ (n : ℕ). record { selected = true; clocks = clocks n; opcode = u .opcode; address = u .address; number = u .number; value = u .value }) (split-total s u)
@@ -55,7 +55,7 @@ module _ (s : Setting) (zs xs : List ℕ) where
   w ys = gather (s .wires) ys
 
   -- while the command is cut, the number is what all samples so far spell
-  pub cut-number : length zs < c → underwayOf s zs .number ≡ gather (s .wires) zs
+  cut-number : length zs < c → underwayOf s zs .number ≡ gather (s .wires) zs
   unfolding underwayOf pendingIn readingOf
   cut-number h = rw (full-first (commandClocks s) zs, lt-leb c (length zs) h, take-all c zs (omega arith))
 
@@ -117,7 +117,7 @@ module _ (d : Device) (none : d .underway ≡ noUnderway) (l : Lent) where
         ∙ ap (λ (r : Run). runOf d r xs) (resumed-at zs)
         ∙ sym (run-append d (begun l) zs xs)
 
-    pub outs-at : outsOn (after zs .device) (after zs .lent) xs ≡ outsOf d (runOf d (begun l) zs) xs
+    outs-at : outsOn (after zs .device) (after zs .lent) xs ≡ outsOf d (runOf d (begun l) zs) xs
     outs-at =
         ap (λ (e : Device). outsOf e (resumed (after zs .device) (after zs .lent)) xs) back
         ∙ ap (λ (r : Run). outsOf d r xs) (resumed-at zs)

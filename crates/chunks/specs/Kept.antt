@@ -16,7 +16,7 @@ use Rattle.units.specs.declared.Clocks.{Clocks}
 use Rattle.units.specs.declared.Bytes.{Bytes}
 use Rattle.units.specs.declared.Wires.{Wires}
 use Rattle.units.specs.declared.Wires.the-variants.{One, Two, Four}
-use Rattle.units.specs.Units.{clocks, bytes, wiresOf, perByte, wholeOf, unfinishedOf}
+use Rattle.units.specs.Units.{clocks, wiresOf, perByte, wholeOf, unfinishedOf}
 use Rattle.wires.specs.Bits.{gather, fitsIn}
 use Rattle.wires.specs.Laws.{gather-lt, lt-fits, zero-fits}
 use Rattle.kinds.specs.declared.Kind.{Kind}

@@ -2,9 +2,10 @@ pub mod Standing
 pub mod Feeding
 pub mod Kept
 pub mod Typed
-pub mod Reached
+pub mod DataReached
 pub mod Rebuilt
 pub mod Runs
 pub mod Chunks
 pub mod Promises
 pub mod Programs
+pub mod Examples

@@ -10,7 +10,7 @@ use lib.ListN.{length, take, drop, length-append, length-drop, length-replicate}
 use borrow.Author.Tests.{le-leb}
 use lib.Seq.{take-at, take-add, take-all, length-take-le}
 use Rattle.units.specs.declared.Clocks.{Clocks}
-use Rattle.units.specs.Units.{clocks, wiresOf}
+use Rattle.units.specs.Units.{wiresOf}
 use Rattle.commands.specs.Plans.{reads}
 use Rattle.record.specs.declared.answers.Answer.the-variants.{Done}
 use Rattle.record.specs.declared.devices.Device.{Device}
@@ -40,9 +40,10 @@ use Rattle.demand_3.specs.Steps.{Every}
 use Rattle.demand_3.specs.Episodes.{Chip, Call, Reply, leaves, fitted, clocked, Roomy, RoomFor, Episode, Apart, Ready}
 use Rattle.demand_3.specs.Programs.{Made, joined, Agree, any-program}
 use Rattle.demand_3.specs.Programs.Made.{ended, call}
+use Rattle.chunks.specs.Typed.{Typed}
 use Rattle.chunks.specs.Feeding.{Left, left}
 use Rattle.chunks.specs.Promises.{feed-refused}
-use Rattle.chunks.specs.Chunks.{afterFeeds, outputs, Unrefused, together, shared, Idle, opened, InChunks, chunks}
+use Rattle.chunks.specs.Chunks.{afterFeeds, outputs, Unrefused, together, shared, Idle, idle-so, opened, InChunks, chunks}
 
 -- ---- a transaction in chunks that a program made: each call keeps to its contract; the chunks are those that were answered 0
 pub data Feeds : Chip → List Call → List (List ℕ) → Chip → Type 0 where
@@ -197,12 +198,13 @@ whole-room [] = tt
 whole-room (x ∷ e) = (whole-roomy x, whole-room e)
 
 -- DEMAND 3 IN CHUNKS: two programs whose chunks make up the same episodes, in two orders, agree as those do that clock them whole
-pub any-chunks : (c : Chip) → Ready c → Idle c → (e₁ e₂ : List (List (List Call)))
+pub any-chunks : (c : Chip) → Ready c → Typed (c .device .underway) → (e₁ e₂ : List (List (List Call)))
     → List·Permᴰ (clocked (map (map whole) e₁)) (clocked (map (map whole) e₂)) → Every (Episode c) (clocked (map (map whole) e₁))
     → Pairwise (Apart (settingOf (c .device))) (clocked (map (map whole) e₁))
     → {rs₁ rs₂ : List Reply} {c₁ c₂ : Chip} → MadeInChunks c (joined e₁) rs₁ c₁ → MadeInChunks c (joined e₂) rs₂ c₂
     → Agree c (map (map whole) e₁) (map (map whole) e₂) rs₁ rs₂ c₁ c₂
-any-chunks c r i e₁ e₂ order episodes apart {rs₁} {rs₂} {c₁} {c₂} m₁ m₂ =
+any-chunks c r t e₁ e₂ order episodes apart {rs₁} {rs₂} {c₁} {c₂} m₁ m₂ =
+    let i = idle-so c (r .sized) (r .valid) (r .idle) t in
     any-program c r order (whole-room e₁) (whole-room e₂) episodes apart
     (subst (λ (k : List Call). Made c k rs₁ c₁) (map-joined e₁) (made-whole i m₁))
     (subst (λ (k : List Call). Made c k rs₂ c₂) (map-joined e₂) (made-whole i m₂))
@@ -279,8 +281,8 @@ module _ (q : Order) (written : List ℕ) (d : Device) (l : Lent) (sp : Spelled 
         gathers = p .gathers ∙ ap (λ (ys : List ℕ). collectOf (wiresOf (wiresIn o)) ys (p .store)) (driven-own _ i (p .through) ∙ sym all-told);
       }
 
-  pub served-in-chunks : Lendable d l xs (undriven xs) → ServedInChunks o d l p
-  served-in-chunks r =
+  served-idle : Lendable d l xs (undriven xs) → ServedInChunks o d l p
+  served-idle r =
       let s = served q written d l sp m as-whole (subst (λ (ys : List ℕ). Lendable d l ys (undriven xs)) (p .whole) r) in
       let e : p .outcome .answer ≡ ran .answer = ap (λ (z : Left). z .answer) (left-own _ i (p .through)) in
       record {
@@ -289,3 +291,9 @@ module _ (q : Order) (written : List ℕ) (d : Device) (l : Lent) (sp : Spelled 
         done = λ z. e ∙ s .done z;
         heard = s .heard;
       }
+
+pub served-in-chunks : (q : Order) (written : List ℕ) (d : Device) (l : Lent)
+    → let o = orderAs q written in
+    Spelled o → Meant o d → Typed (d .underway) → (p : DrivenInChunks o d l) → Lendable d l (together (p .cut)) (undriven (together (p .cut)))
+    → ServedInChunks o d l p
+served-in-chunks q written d l sp m t p r = served-idle q written d l sp m p (idle-so (record { device = d; lent = l }) (r .sized) (m .valid) (m .idle) t) r

@@ -6,12 +6,13 @@ use native.Mathlib.Nat.{le-refl}
 use native.Mathlib.Omega.{arith}
 use mathlib.Core.Bool.{Bool, true, false, cond, not, _&&_}
 use mathlib.Core.List.{List, [], _∷_, _++_, map}
+use lib.Dec.{eqb}
 use lib.ListN.{length, length-append, length-replicate}
 use borrow.Author.Tests.{leb-true, le-leb}
-use Rattle.basis.specs.Truth.{both-true, not-untrue, untrue}
-use Rattle.basis.specs.Decisions.{firstOf, NoneHolds, first-append}
+use Rattle.basis.specs.Truth.{not-untrue, untrue}
+use Rattle.basis.specs.Decisions.{firstOf, NoneHolds, Among, no-row, none-holds, first-append}
 use Rattle.units.specs.declared.Clocks.{Clocks}
-use Rattle.units.specs.Units.{clocks, plus, atMost, longest}
+use Rattle.units.specs.Units.{clocks}
 use Rattle.progress.specs.declared.Progress.{Progress}
 use Rattle.record.specs.declared.answers.Answer.{Answer}
 use Rattle.record.specs.declared.answers.Answer.the-variants.{Done, Size, Sample, State, Turn}
@@ -20,13 +21,13 @@ use Rattle.record.specs.declared.devices.Device.{Device}
 use Rattle.record.specs.Answers.{answerNumber, refuses}
 use Rattle.record.specs.Devices.{settingOf}
 use Rattle.record.specs.Fields.{noUnderway, justOpen, underwayTo, closedOf}
-use Rattle.paper.specs.Reading.{many}
-use Rattle.paper.specs.Underway.{reached, factless, underwayValid, validOf}
+use Rattle.paper.specs.Underway.{validOf}
+use Rattle.paper.specs.UnderwayLaws.{valid-range, open-reached}
 use Rattle.paper.specs.Storing.{Lent}
 use Rattle.paper.specs.Table.{listed}
 use Rattle.paper.specs.Answers.{tableFor, judge}
 use Rattle.paper.specs.Transaction.{World, sizedFor, roomFor, soFar, roomAfter, sampled, undriven, clockChecks, bareChecks, openChecks, feedChecks, closeChecks, transactChecks, clockedOf, transactOf, powerOf}
-use Rattle.paper.specs.CallLaws.{Untouched, by-checks, refused-by, made-by, answer-by, when-accepted, judge-refuses-none}
+use Rattle.paper.specs.CallLaws.{Untouched, ChunkAccepted, by-checks, refused-by, made-by, answer-by, chunk-accepting, when-accepted, judge-refuses-none}
 use Rattle.paper.specs.Meanwhile.{underwayOf}
 use Rattle.contract_words.specs.Words.{begun}
 use Rattle.machine_phases.specs.Machine.{runOf}
@@ -35,15 +36,14 @@ use Rattle.machine_end.specs.Finish.{factsIn, outcomeOf, finishOf}
 use Rattle.machine_bridge.specs.Bridge.{bridge}
 use Rattle.machine_chunks.specs.Chunks.{resumeOf, resumed, opcodeAfter, pausedOf, fedTo, runOn, outsOn, openedWorld, openOf, fedWorld, feedOf, closedWorld, closeOf}
 use Rattle.demand_1_2.specs.ExactOrder.{power-order}
-use Rattle.demand_1_2.specs.Kept.{Kept, valid-range, valid-underway, kept-by, output-size, transact-kept, transact-underway, power-underway}
-use Rattle.demand_1_2.specs.Sent.{bytewise}
-use Rattle.demand_3.specs.Episodes.{Chip, Call, leaves}
+use Rattle.demand_1_2.specs.Kept.{Kept, kept-by, output-size, transact-kept, transact-underway, power-underway}
+use Rattle.demand_3.specs.Episodes.{Chip, Call}
 use Rattle.chunks.specs.Standing.{standing}
 use Rattle.chunks.specs.Feeding.{after, fed-on, none-yet}
-use Rattle.chunks.specs.Typed.{Typed, facts-typed}
+use Rattle.chunks.specs.Typed.{Typed, none-typed, facts-typed}
 use Rattle.chunks.specs.Rebuilt.{Reach, reach}
 use Rattle.chunks.specs.Runs.{run-known, run-size}
-use Rattle.chunks.specs.Chunks.{fed, afterFeeds, Unrefused, Idle, opened, opened-at, feed-room, feed-busy, facts-valid, closed-valid, sized-same}
+use Rattle.chunks.specs.Chunks.{fed, afterFeeds, Unrefused, Idle, opened, opened-at, facts-valid, closed-valid, sized-same}
 
 -- ---- REFUSED: a call that is refused leaves everything as it was, and no clock of it counts
 module _ (d : Device) (l : Lent) where
@@ -84,62 +84,54 @@ module _ (d : Device) (l : Lent) where
   in-order xs out = (refl, (refl, refl))
 
 -- ---- 13 EXACTLY WHEN IT IS SAID: the checks before it are passed, and the call is out of turn
-module _ (v : Answer) (calm : refuses v ≡ false) where
-  -- the answer that is left where no check fails is not 13
-  not-turn : {Q : Type 0} → v ≡ Turn → Q
-  not-turn e = untrue (sym calm ∙ ap refuses e)
+abbrev saysTurn : Answer → Bool
+saysTurn v = eqb (answerNumber v) 13
 
-  bare-turn : (a b t : Bool) → firstOf v ((not a, Size) ∷ (not b, State) ∷ (t, Turn) ∷ []) ≡ Turn → (a ≡ true) × ((b ≡ true) × (t ≡ true))
-  bare-turn true true true e = (refl, (refl, refl))
-  bare-turn true true false e = not-turn e
-  bare-turn true false t e = let z : _≡_ {A = ℕ} 3 13 = ap answerNumber e in absurd (omega arith)
-  bare-turn false b t e = let z : _≡_ {A = ℕ} 1 13 = ap answerNumber e in absurd (omega arith)
+-- of any checks that lead to other answers, and then 13 where `t` holds; `v` is what is answered where none fails
+module _ (cs : List (Bool × Answer)) (others : Among (λ a. saysTurn a ≡ false) cs) (v : Answer) (calm : refuses v ≡ false) (t : Bool) where
+  abbrev verdict : Answer
+  verdict = firstOf v (cs ++ ((t, Turn) ∷ []))
 
-  clock-turn : (a m b t : Bool) → firstOf v ((not a, Size) ∷ (not m, Sample) ∷ (not b, State) ∷ (t, Turn) ∷ []) ≡ Turn
-      → (a ≡ true) × ((m ≡ true) × ((b ≡ true) × (t ≡ true)))
-  clock-turn true true true true e = (refl, (refl, (refl, refl)))
-  clock-turn true true true false e = not-turn e
-  clock-turn true true false t e = let z : _≡_ {A = ℕ} 3 13 = ap answerNumber e in absurd (omega arith)
-  clock-turn true false b t e = let z : _≡_ {A = ℕ} 2 13 = ap answerNumber e in absurd (omega arith)
-  clock-turn false m b t e = let z : _≡_ {A = ℕ} 1 13 = ap answerNumber e in absurd (omega arith)
+  by-turn : (b : Bool) → cond b Turn v ≡ Turn → b ≡ true
+  by-turn true e = refl
+  by-turn false e = untrue (sym calm ∙ ap refuses e)
 
--- the two lists of checks, whatever the call
-module _ (d : Device) (l : Lent) (turn : Bool) where
-  -- said of a call without clocks
-  pub bare-said : (v : Answer) → refuses v ≡ false → firstOf v (bareChecks d l turn) ≡ Turn → (sizedFor d l ≡ true) × ((validOf d ≡ true) × (turn ≡ true))
-  bare-said v calm e = bare-turn v calm (sizedFor d l) (validOf d) turn e
+  turn-said : verdict ≡ Turn → NoneHolds cs × (t ≡ true)
+  turn-said e =
+      let h : firstOf (cond t Turn v) cs ≡ Turn = sym (first-append v cs ((t, Turn) ∷ [])) ∙ e in
+      let c = none-holds (cond t Turn v) saysTurn cs others (ap saysTurn h) in
+      (c, by-turn t (sym (no-row (cond t Turn v) cs c) ∙ h))
 
-  pub bare-says : (v : Answer) → sizedFor d l ≡ true → validOf d ≡ true → turn ≡ true → firstOf v (bareChecks d l turn) ≡ Turn
-  bare-says v s k t = rw (s, k, t)
-
-  -- and of one with
-  pub clock-said : (v : Answer) (xs : List ℕ) (fits : Bool) → refuses v ≡ false → firstOf v (clockChecks d l xs fits turn) ≡ Turn
-      → ((sizedFor d l && fits) ≡ true) × ((sampled xs ≡ true) × ((validOf d ≡ true) × (turn ≡ true)))
-  clock-said v xs fits calm e = clock-turn v calm (sizedFor d l && fits) (sampled xs) (validOf d) turn e
-
-  pub clock-says : (v : Answer) (xs : List ℕ) (fits : Bool) → sizedFor d l ≡ true → fits ≡ true → sampled xs ≡ true → validOf d ≡ true → turn ≡ true
-      → firstOf v (clockChecks d l xs fits turn) ≡ Turn
-  clock-says v xs fits s f i k t = rw (s, f, i, k, t)
+  turn-says : NoneHolds cs → t ≡ true → verdict ≡ Turn
+  turn-says c e = first-append v cs ((t, Turn) ∷ []) ∙ no-row (cond t Turn v) cs c ∙ ap (λ (b : Bool). cond b Turn v) e
 
 -- so of each of the five calls: 13 just when its other checks are passed and it is out of turn
 abbrev pub Just : Answer → Type 0 → Type 0
 Just v Q = (v ≡ Turn → Q) × (Q → v ≡ Turn)
 
 abbrev pub Bare : Device → Lent → Bool → Type 0
-Bare d l turn = (sizedFor d l ≡ true) × ((validOf d ≡ true) × (turn ≡ true))
+Bare d l untimely = (sizedFor d l ≡ true) × ((validOf d ≡ true) × (untimely ≡ true))
 
 abbrev pub Clocked : Device → Lent → List ℕ → Bool → Bool → Type 0
-Clocked d l xs fits turn = ((sizedFor d l && fits) ≡ true) × ((sampled xs ≡ true) × ((validOf d ≡ true) × (turn ≡ true)))
+Clocked d l xs fits untimely = ((sizedFor d l && fits) ≡ true) × ((sampled xs ≡ true) × ((validOf d ≡ true) × (untimely ≡ true)))
 
-module _ (d : Device) (l : Lent) (a v : Answer) (calm : refuses v ≡ false) (turn : Bool) where
-  bare-just : a ≡ firstOf v (bareChecks d l turn) → Just a (Bare d l turn)
-  bare-just e = (λ f. bare-said d l turn v calm (sym e ∙ f), λ q. e ∙ bare-says d l turn v (q .0) (q .1 .0) (q .1 .1))
+-- by the two lists that they share
+module _ (d : Device) (l : Lent) (a v : Answer) (calm : refuses v ≡ false) (t : Bool) where
+  bare-just : a ≡ firstOf v (bareChecks d l t) → Just a (Bare d l t)
+  bare-just e =
+      let cs : List (Bool × Answer) = (not (sizedFor d l), Size) ∷ (not (validOf d), State) ∷ [] in (
+        λ f. let q = turn-said cs (refl, (refl, tt)) v calm t (sym e ∙ f) in (not-untrue _ (q .0 .0), (not-untrue _ (q .0 .1 .0), q .1)),
+        λ q. e ∙ turn-says cs (refl, (refl, tt)) v calm t (ap not (q .0), (ap not (q .1 .0), tt)) (q .1 .1),
+      )
 
-  clock-just : (xs : List ℕ) (fits : Bool) → a ≡ firstOf v (clockChecks d l xs fits turn) → Just a (Clocked d l xs fits turn)
-  clock-just xs fits e = (
-    λ f. clock-said d l turn v xs fits calm (sym e ∙ f),
-    λ q. let b = both-true (sizedFor d l) fits (q .0) in e ∙ clock-says d l turn v xs fits (b .0) (b .1) (q .1 .0) (q .1 .1 .0) (q .1 .1 .1),
-  )
+  clock-just : (xs : List ℕ) (fits : Bool) → a ≡ firstOf v (clockChecks d l xs fits t) → Just a (Clocked d l xs fits t)
+  clock-just xs fits e =
+      let cs : List (Bool × Answer) = (not (sizedFor d l && fits), Size) ∷ (not (sampled xs), Sample) ∷ (not (validOf d), State) ∷ [] in (
+        λ f.
+            let q = turn-said cs (refl, (refl, (refl, tt))) v calm t (sym e ∙ f) in
+            (not-untrue _ (q .0 .0), (not-untrue _ (q .0 .1 .0), (not-untrue _ (q .0 .1 .1 .0), q .1))),
+        λ q. e ∙ turn-says cs (refl, (refl, (refl, tt))) v calm t (ap not (q .0), (ap not (q .1 .0), (ap not (q .1 .1 .0), tt))) (q .1 .1 .1),
+      )
 
 module _ (d : Device) (l : Lent) where
   pub open-turn : Just (openOf d l .answer) (Bare d l (d .underway .selected))
@@ -170,12 +162,8 @@ just-open d l = ap (λ (e : Device). e .underway) (none-yet (closedOf d) refl l)
 
 -- a valid record with a transaction open is one that some samples reach
 module _ (d : Device) (typed : Typed (d .underway)) (v : validOf d ≡ true) (busy : d .underway .selected ≡ true) where
-  facts-pass : reached (settingOf d) (d .underway) ≡ true
-  unfolding underwayValid
-  facts-pass = sym (ap (λ (b : Bool). cond b (reached (settingOf d) (d .underway)) (factless (d .underway))) busy) ∙ valid-underway d v
-
-  pub samples-for : Reach (settingOf d) (d .underway)
-  samples-for = reach (settingOf d) (d .underway) typed busy facts-pass
+  samples-for : Reach (settingOf d) (d .underway)
+  samples-for = reach (settingOf d) (d .underway) typed busy (open-reached d v busy)
 
 -- the record of a chunk more
 fed-known : (d : Device) (l l′ : Lent) (xs : List ℕ) → fedTo d xs (runOn d l xs) ≡ fedTo d xs (runOn d l′ xs)
@@ -196,13 +184,13 @@ module _ (d : Device) (l : Lent) (v : validOf d ≡ true) (sized : sizedFor d l 
         output = refl;
       })
 
--- ALSO KEPT: the facts are as the types of the code have them, which the calls after it ask for
+-- ALSO KEPT: the value is as the types of the code have it, which KEPT asks of the record before a feed and before a close
 abbrev TypedAfter : World → Type 0
 TypedAfter w = Typed (w .device .underway)
 
 pub open-typed : (d : Device) (l : Lent) → Typed (d .underway) → TypedAfter (openOf d l)
 unfolding openOf
-open-typed d l t = by-checks d l [] (openChecks d l) (openedWorld d l) TypedAfter (λ a. t) (λ c. rw (just-open d l) (facts-typed (settingOf d) []))
+open-typed d l t = by-checks d l [] (openChecks d l) (openedWorld d l) TypedAfter (λ a. t) (λ c. none-typed)
 
 pub transact-typed : (d : Device) (l : Lent) (xs out : List ℕ) → validOf d ≡ true → Typed (d .underway) → TypedAfter (transactOf d l xs out)
 transact-typed d l xs out v t = rw (transact-underway d l xs out v) t
@@ -210,15 +198,11 @@ transact-typed d l xs out v t = rw (transact-underway d l xs out v) t
 pub power-typed : (d : Device) (l : Lent) → validOf d ≡ true → Typed (d .underway) → TypedAfter (powerOf d l)
 power-typed d l v t = rw (power-underway d l v) t
 
-none-typed : Typed noUnderway
-unfolding bytewise
-none-typed = record { places = refl; bytes = refl }
-
 -- of a record that holds a transaction: its facts are as the types of the code have them
 module _ (d : Device) (l : Lent) (typed : Typed (d .underway)) (v : validOf d ≡ true) (sized : sizedFor d l ≡ true) where
-  module _ (xs out : List ℕ) (e : refuses (feedOf d l xs out .answer) ≡ false) where
+  module _ (xs out : List ℕ) (a : ChunkAccepted d l xs out) where
     abbrev z : Reach (settingOf d) (d .underway)
-    z = samples-for d typed v (feed-busy d l xs out e)
+    z = samples-for d typed v (a .turn)
 
     -- the record is one that the samples so far, and those of the chunk, reach
     record-so : fedTo d xs (runOn d l xs) ≡ underwayTo (underwayOf (settingOf d) (z .samples ++ xs)) (closedOf d)
@@ -230,17 +214,13 @@ module _ (d : Device) (l : Lent) (typed : Typed (d .underway)) (v : validOf d �
 
     -- and they are few enough
     counted-so : soFar (d .underway) ≡ d .underway .clocks
-    counted-so = ap (λ (b : Bool). cond b (d .underway .clocks) (clocks 0)) (feed-busy d l xs out e)
-
-    room-so : (atMost (plus (soFar (d .underway)) (many xs)) longest ≡ true) × (atMost (many xs) (many out) ≡ true)
-    unfolding roomAfter
-    room-so = both-true (atMost (plus (soFar (d .underway)) (many xs)) longest) (atMost (many xs) (many out)) (feed-room d l xs out e)
+    counted-so = ap (λ (b : Bool). cond b (d .underway .clocks) (clocks 0)) (a .turn)
 
     few-so : length (z .samples ++ xs) ≤ 65535
     unfolding underwayOf
     few-so =
-        let a : length (z .samples) ≡ soFar (d .underway) .0 = ap (λ (u : Underway). u .clocks .0) (z .facts) ∙ ap (λ (c : Clocks). c .0) (sym counted-so) in
-        let b = leb-true (soFar (d .underway) .0 + length xs) 65535 (room-so .0) in
+        let h : length (z .samples) ≡ soFar (d .underway) .0 = ap (λ (u : Underway). u .clocks .0) (z .facts) ∙ ap (λ (c : Clocks). c .0) (sym counted-so) in
+        let b = leb-true (soFar (d .underway) .0 + length xs) 65535 (a .few) in
         let n = length-append (z .samples) xs in
         omega arith
 
@@ -253,22 +233,20 @@ module _ (d : Device) (l : Lent) (typed : Typed (d .underway)) (v : validOf d �
           make = refl;
           memory = k .0;
           area = k .1;
-          output = output-size d l v sized xs (outsOn d l xs) out (outs-length (closedOf d) (resumed d l) xs) (room-so .1);
+          output = output-size xs (outsOn d l xs) out (outs-length (closedOf d) (resumed d l) xs) (a .room);
         }
-
-  made-so : (xs out : List ℕ) → NoneHolds (feedChecks d l xs out) → refuses (feedOf d l xs out .answer) ≡ false
-  unfolding feedOf
-  made-so xs out c = ap (λ (w : World). refuses (w .answer)) (made-by d l out (feedChecks d l xs out) (fedWorld d l xs out) c)
 
   pub feed-kept : (xs out : List ℕ) → Kept d l out (feedOf d l xs out)
   unfolding feedOf
-  feed-kept xs out = kept-by d l v sized out (feedChecks d l xs out) (fedWorld d l xs out) (λ c. feeds xs out (made-so xs out c))
+  feed-kept xs out = kept-by d l v sized out (feedChecks d l xs out) (fedWorld d l xs out) (λ c. feeds xs out (chunk-accepting d l xs out c))
 
   pub feed-typed : (xs out : List ℕ) → TypedAfter (feedOf d l xs out)
   unfolding feedOf
   feed-typed xs out =
-      by-checks d l out (feedChecks d l xs out) (fedWorld d l xs out) TypedAfter (λ a. typed)
-      (λ c. let e = made-so xs out c in subst (λ (f : Device). Typed (f .underway)) (sym (record-so xs out e)) (facts-typed (settingOf d) (z xs out e .samples ++ xs)))
+      by-checks d l out (feedChecks d l xs out) (fedWorld d l xs out) TypedAfter (λ w. typed)
+      (λ c.
+      let a = chunk-accepting d l xs out c in
+      subst (λ (f : Device). Typed (f .underway)) (sym (record-so xs out a)) (facts-typed (settingOf d) (z xs out a .samples ++ xs)))
 
   -- a close leaves the record that the whole transaction leaves
   module _ (busy : d .underway .selected ≡ true) where
@@ -290,7 +268,7 @@ module _ (d : Device) (l : Lent) (typed : Typed (d .underway)) (v : validOf d �
           turn = refl;
         })
 
-    pub close-device : closedWorld d l .device ≡ transactOf (closedOf d) l (y .samples) (undriven (y .samples)) .device
+    close-device : closedWorld d l .device ≡ transactOf (closedOf d) l (y .samples) (undriven (y .samples)) .device
     unfolding finishOf
     close-device =
         let s = settingOf d in

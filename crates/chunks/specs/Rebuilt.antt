@@ -39,7 +39,7 @@ use Rattle.demand_1_2.specs.Sent.{bytewise, sampled-append, sampled-silent, sam
 use Rattle.chunks.specs.Standing.{dataLeft, readNumber}
 use Rattle.chunks.specs.Kept.{byte-bits, address-bits}
 use Rattle.chunks.specs.Typed.{Typed}
-use Rattle.chunks.specs.Reached.{DataFor, data-for, fixed-few, zeros-all}
+use Rattle.chunks.specs.DataReached.{DataFor, data-for, fixed-few, zeros-all}
 
 -- the value that the samples leave, from the data on and from the address on
 abbrev dataValue : Setting → Kind → ℕ → List ℕ → List ℕ

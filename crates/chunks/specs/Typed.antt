@@ -1,8 +1,7 @@
--- AS THE TYPES OF THE CODE HAVE THEM: the value has eight places, each a byte, in the facts of any samples. Document 02, P1.
+-- AS THE TYPES OF THE CODE HAVE IT: the value of the facts of any samples has eight places, each a byte. Document 02, P1.
 -- Assumes nothing.
-use mathlib.Core.Path.{_≡_, refl, sym, _∙_}
-use Prim.Native.Nat.{ℕ, zero, suc, _+_, _%_, _<_}
-use native.Mathlib.Nat.{mod-lt}
+use mathlib.Core.Path.{_≡_, refl, _∙_}
+use Prim.Native.Nat.{ℕ, zero, suc, _+_, _<_}
 use native.Mathlib.Omega.{arith}
 use mathlib.Core.Bool.{true}
 use mathlib.Core.List.{List, [], _∷_}
@@ -18,6 +17,7 @@ use Rattle.commands.specs.declared.plans.Body.{Body}
 use Rattle.commands.specs.declared.plans.Body.the-variants.{Nothing, FixedRead, AnyRead, FixedWrite, AnyWrite}
 use Rattle.record.specs.declared.devices.Underway.{Underway}
 use Rattle.record.specs.declared.devices.Setting.{Setting}
+use Rattle.record.specs.Fields.{noUnderway}
 use Rattle.paper.specs.InForce.{wiresFor}
 use Rattle.paper.specs.Reading.{many, readingOf, bytesIn, dataBytes}
 use Rattle.paper.specs.Storing.{valueByte, takeAll}
@@ -26,12 +26,12 @@ use Rattle.paper.specs.Meanwhile.{underwayOf}
 use Rattle.paper.specs.Laws.{still}
 use Rattle.demand_1_2.specs.Sent.{bytewise}
 
-abbrev Eight : List ℕ → Type 0
-Eight v = (length v ≡ 8) × (bytewise v ≡ true)
+pub record Eight (v : List ℕ) : Type 0 where
+  pub places : length v ≡ 8
+  pub bytes : bytewise v ≡ true
 
-pub record Typed (u : Underway) : Type 0 where
-  pub places : length (u .value) ≡ 8
-  pub bytes : bytewise (u .value) ≡ true
+abbrev pub Typed : Underway → Type 0
+Typed u = Eight (u .value)
 
 -- what the clocks of a byte spell is a byte
 byte-lt : (w : Wires) (xs : List ℕ) → gather w (take (perByte w) xs) < 256
@@ -57,20 +57,23 @@ unfolding takeAll bytewise
 put-eight [] i v e h = h
 put-eight (b ∷ bs) i v e h =
     let c = both-true (ltb b 256) (bytewise bs) e in
-    put-eight bs (i + 1) (set v i b) (c .1) (length-set v i b ∙ h .0, set-bytes v i b (h .1) (c .0))
+    put-eight bs (i + 1) (set v i b) (c .1) (record { places = length-set v i b ∙ h .places; bytes = set-bytes v i b (h .bytes) (c .0) })
+
+-- a fresh chip's, and any with none open
+pub none-typed : Typed noUnderway
+unfolding bytewise
+none-typed = record { places = refl; bytes = refl }
 
 value-eight : (b : Body) (bs : List ℕ) → bytewise bs ≡ true → Eight (takeAll (valueByte b) 0 bs (replicate 8 0))
-unfolding bytewise
-value-eight Nothing bs e = rw (still (valueByte Nothing) (λ i x t. refl) bs 0 (replicate 8 0)) (refl, refl)
-value-eight (FixedRead m) bs e = rw (still (valueByte (FixedRead m)) (λ i x t. refl) bs 0 (replicate 8 0)) (refl, refl)
-value-eight AnyRead bs e = rw (still (valueByte AnyRead) (λ i x t. refl) bs 0 (replicate 8 0)) (refl, refl)
-value-eight (FixedWrite m) bs e = put-eight bs 0 (replicate 8 0) e (refl, refl)
-value-eight AnyWrite bs e = rw (still (valueByte AnyWrite) (λ i x t. refl) bs 0 (replicate 8 0)) (refl, refl)
+value-eight Nothing bs e = rw (still (valueByte Nothing) (λ i x t. refl) bs 0 (replicate 8 0)) none-typed
+value-eight (FixedRead m) bs e = rw (still (valueByte (FixedRead m)) (λ i x t. refl) bs 0 (replicate 8 0)) none-typed
+value-eight AnyRead bs e = rw (still (valueByte AnyRead) (λ i x t. refl) bs 0 (replicate 8 0)) none-typed
+value-eight (FixedWrite m) bs e = put-eight bs 0 (replicate 8 0) e none-typed
+value-eight AnyWrite bs e = rw (still (valueByte AnyWrite) (λ i x t. refl) bs 0 (replicate 8 0)) none-typed
 
 pub facts-typed : (s : Setting) (xs : List ℕ) → Typed (underwayOf s xs)
 unfolding underwayOf factsOf sentBytes dataBytes
 facts-typed s xs =
     let p = readingOf s xs in
     let w = wiresFor s (p .kind) in
-    let h = value-eight (bodyIn s p) (dataBytes w (p .dataPart)) (sent-bytes w (wholeOf w (many (p .dataPart)) .0) (p .dataPart)) in
-    record { places = h .0; bytes = h .1 }
+    value-eight (bodyIn s p) (dataBytes w (p .dataPart)) (sent-bytes w (wholeOf w (many (p .dataPart)) .0) (p .dataPart))

@@ -34,7 +34,10 @@ exact-order d l xs out =
     answer-by d l out (transactChecks d l xs out) (clockedOf d l xs out)
     ∙ sym (first-append Done (transactChecks d l xs out) (listed (tableFor d (factsOf (settingOf d) (readingOf (settingOf d) xs)))))
 
--- and of a power cycle that of the first check that fails
+-- and of a power cycle that of the first check that fails, in the same order
+pub power-in-order : (d : Device) (l : Lent) → map (λ r. answerNumber (r .1)) (powerChecks d l) ≡ 1 ∷ 3 ∷ 13 ∷ []
+power-in-order d l = refl
+
 pub power-order : (d : Device) (l : Lent) → powerOf d l .answer ≡ firstOf Done (powerChecks d l)
 unfolding powerOf
 power-order d l = answer-by d l [] (powerChecks d l) (poweredUp d l)

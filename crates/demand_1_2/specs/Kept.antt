@@ -1,9 +1,9 @@
 -- KEPT: a call on a valid record, with memory and area of its size, leaves a valid record and the same sizes; and a fresh chip is valid. So whoever starts from a fresh chip and makes any
--- calls at all never meets answer 3, and meets answer 1 only for his clocks or his output.
+-- transactions and power cycles never meets answer 3, and meets answer 1 only for his clocks or his output; for `open`, `feed` and `close` `chunks: Promises` says it.
 --
 -- A command reaches only fields that its family has, because each row of the family's table is a command of that family: one computed test over the rows.
 -- Assumes nothing.
-use mathlib.Core.Path.{_≡_, refl, ap, _∙_, sym, subst}
+use mathlib.Core.Path.{_≡_, refl, _∙_, sym, subst}
 use mathlib.Core.Bool.{Bool, true, false, cond, not, _&&_}
 use mathlib.Core.List.{List, [], _∷_}
 use Prim.Native.Nat.{ℕ, _+_, _/_, _%_}
@@ -52,7 +52,8 @@ use Rattle.changes.specs.Latches.{writeMode, afterBurst}
 use Rattle.changes.specs.Changes.{controlled, writtenTo, burstDone, effectOf, settledOf}
 use Rattle.state_check.specs.Values.{statusAllowed, cr3Allowed, cr4Allowed, configurationsAllowed, modeRegisterAllowed, reservedOf}
 use Rattle.state_check.specs.States.{modeAllowed, zeros, mramRegisters, mramVolatile, mramIdentity, psramRegisters, psramVolatile, psramIdentity, validFor, inRange}
-use Rattle.paper.specs.Underway.{reached, factless, underwayValid, validOf}
+use Rattle.paper.specs.Underway.{factless, underwayValid, validOf}
+use Rattle.paper.specs.UnderwayLaws.{valid-range, idle-facts, idle-valid}
 use Rattle.paper.specs.InForce.{commandClocks}
 use Rattle.paper.specs.Reading.{first, many, full, kindRead, Reading, readingOf}
 use Rattle.paper.specs.Storing.{Lent, intoArea, protectedAt, putAt, storeByte, takeAll}
@@ -341,15 +342,6 @@ module _ (p : Part) (m : Make) (u : Underway) where
 abbrev Good : Make → Underway → Device → Type 0
 Good m u d = Of (familyOf (partOf (m .part))) (partOf (m .part)) m u d
 
--- the two parts of the state check
-pub valid-range : (d : Device) → validOf d ≡ true → inRange d ≡ true
-unfolding validOf
-valid-range d v = both-true (inRange d) (underwayValid (settingOf d) (d .underway)) v .0
-
-pub valid-underway : (d : Device) → validOf d ≡ true → underwayValid (settingOf d) (d .underway) ≡ true
-unfolding validOf
-valid-underway d v = both-true (inRange d) (underwayValid (settingOf d) (d .underway)) v .1
-
 good : (d : Device) → validOf d ≡ true → Good (d .make) (d .underway) d
 unfolding inRange
 good d v = ((refl, refl), fields (familyOf (partOf (d .make .part))) (partOf (d .make .part)) d (valid-range d v))
@@ -358,18 +350,6 @@ still-ranged : (m : Make) (u : Underway) (d : Device) → Good m u d → inRange
 unfolding inRange
 still-ranged m u d (g, o) =
     subst (λ (n : Make). validFor (familyOf (partOf (n .part))) (partOf (n .part)) d ≡ true) (sym (g .0)) (whole (familyOf (partOf (m .part))) (partOf (m .part)) d o)
-
--- where none is open, and there are no facts of one
-idle : (b x y : Bool) → b ≡ false → cond b x y ≡ y
-idle b x y e = rw e
-
-pub idle-valid : (u : Underway) (d : Device) → d .underway ≡ u → u .selected ≡ false → factless u ≡ true → inRange d ≡ true → validOf d ≡ true
-unfolding validOf underwayValid
-idle-valid u d e n f r = rw r (idle (d .underway .selected) (reached (settingOf d) (d .underway)) (factless (d .underway)) (ap (λ (v : Underway). v .selected) e ∙ n) ∙ ap factless e ∙ f)
-
-pub idle-facts : (d : Device) → validOf d ≡ true → d .underway .selected ≡ false → factless (d .underway) ≡ true
-unfolding underwayValid
-idle-facts d v n = sym (idle (d .underway .selected) (reached (settingOf d) (d .underway)) (factless (d .underway)) n) ∙ valid-underway d v
 
 still-valid : (d e : Device) → validOf d ≡ true → d .underway .selected ≡ false → Good (d .make) (d .underway) e → validOf e ≡ true
 still-valid d e v n g = idle-valid (d .underway) e (g .0 .1) n (idle-facts d v n) (still-ranged (d .make) (d .underway) e g)
@@ -450,20 +430,20 @@ pub record Kept (d : Device) (l : Lent) (out : List ℕ) (w : World) : Type 0 wh
   pub area : length (w .lent .area) ≡ length (l .area)
   pub output : length (w .output) ≡ length out
 
+-- what the clocks drive has room in the output
+pub output-size : (xs ys out : List ℕ) → length ys ≡ length xs → atMost (many xs) (many out) ≡ true → length (over ys out) ≡ length out
+unfolding over
+output-size xs ys out e r =
+    let h = leb-true (length xs) (length out) r in
+    let a = length-append ys (drop (length ys) out) in
+    let b = length-drop (length ys) out in
+    omega arith
+
 module _ (d : Device) (l : Lent) (v : validOf d ≡ true) (sized : sizedFor d l ≡ true) where
   -- of any call behind checks: a refusal leaves everything as it was
   pub kept-by : (out : List ℕ) (cs : List (Bool × Answer)) (w : World) → (NoneHolds cs → Kept d l out w) → Kept d l out (guarded cs (refusal d l out) w)
   kept-by out cs w =
       by-checks d l out cs w (Kept d l out) (λ a. record { valid = v; sized = sized; make = refl; memory = refl; area = refl; output = refl })
-
-  -- what the clocks drive has room in the output
-  pub output-size : (xs ys out : List ℕ) → length ys ≡ length xs → atMost (many xs) (many out) ≡ true → length (over ys out) ≡ length out
-  unfolding over
-  output-size xs ys out e r =
-      let h = leb-true (length xs) (length out) r in
-      let a = length-append ys (drop (length ys) out) in
-      let b = length-drop (length ys) out in
-      omega arith
 
   clocked-kept : (xs out : List ℕ) → d .underway .selected ≡ false → roomFor xs out ≡ true → Kept d l out (clockedOf d l xs out)
   unfolding clockedOf roomFor factsOf readingOf

@@ -33,7 +33,7 @@ use Rattle.record.specs.Devices.{settingOf}
 use Rattle.changes.specs.Latches.{writeMode, latchNeeded, latchMissing, afterBurst}
 use Rattle.state_check.specs.States.{mramVolatile, psramVolatile, psramRegisters, psramIdentity, modeAllowed, psramValid, validFor, inRange}
 use Rattle.paper.specs.Underway.{validOf}
-use Rattle.demand_1_2.specs.Kept.{valid-range, idle-valid, idle-facts}
+use Rattle.paper.specs.UnderwayLaws.{valid-range, idle-facts, idle-valid}
 use Rattle.paper.specs.Transaction.{World, sizedFor, undriven, over}
 use Rattle.demand_3.specs.Steps.{runAll, Every, every-one, every-order, mem-map, any-order}
 use Rattle.demand_3.specs.Bursts.{Burst, storeFrom, store, placesFrom, placesOf, shutAll, leftAt, landed}

@@ -101,23 +101,23 @@ fn first_of(a: bool, v: Answer, b: bool, w: Answer) -> Answer
     Answer::Done
 }
 
-// The checks that every call ends with: the state, and then whose turn it is.
-fn last(d: Device, turn: bool) -> Answer
+// The checks that each list ends with: the state, and then whose turn it is.
+fn last(d: Device, untimely: bool) -> Answer
     requires { ⌜ d .make .n ≤ 24 ⌝ }
-    ensures { λ r. ⌜ r ≡ firstOf Done (lastChecks d turn) ⌝ }
+    ensures { λ r. ⌜ r ≡ firstOf Done (lastChecks d untimely) ⌝ }
 {
     let wrong = !underway::valid(d);
-    first_of(wrong, Answer::State, turn, Answer::Turn)
+    first_of(wrong, Answer::State, untimely, Answer::Turn)
 }
 
-// The checks of a call without clocks. `turn` tells that it is out of turn.
-pub fn bare(d: Device, memory: &[u8], area: &[u8], turn: bool) -> Answer
-    ensures { λ r. ⌜ r ≡ firstOf Done (bareChecks d (lends (now (memory .entry)) (now (area .entry))) turn) ⌝ }
+// The checks of a call without clocks.
+pub fn bare(d: Device, memory: &[u8], area: &[u8], untimely: bool) -> Answer
+    ensures { λ r. ⌜ r ≡ firstOf Done (bareChecks d (lends (now (memory .entry)) (now (area .entry))) untimely) ⌝ }
 {
     if !is_sized(d, memory, area) {
         return Answer::Size;
     }
-    last(d, turn)
+    last(d, untimely)
 }
 
 // And of one with clocks. `fits` tells that they are few enough and have room.
@@ -127,9 +127,9 @@ pub fn clocked(
     area: &[u8],
     samples: &[u8],
     fits: bool,
-    turn: bool,
+    untimely: bool,
 ) -> Answer
-    ensures { λ r. ⌜ r ≡ firstOf Done (clockChecks d (lends (now (memory .entry)) (now (area .entry))) (now (samples .entry)) fits turn) ⌝ }
+    ensures { λ r. ⌜ r ≡ firstOf Done (clockChecks d (lends (now (memory .entry)) (now (area .entry))) (now (samples .entry)) fits untimely) ⌝ }
 {
     if !is_sized(d, memory, area) {
         return Answer::Size;
@@ -140,5 +140,5 @@ pub fn clocked(
     if !is_sampled(samples) {
         return Answer::Sample;
     }
-    last(d, turn)
+    last(d, untimely)
 }

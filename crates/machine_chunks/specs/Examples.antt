@@ -8,7 +8,7 @@ use lib.ListN.{length, getD, take, drop, replicate}
 use Rattle.basis.specs.Counting.{howMany}
 use Rattle.basis.specs.Examples.{all, same}
 use Rattle.units.specs.declared.Wires.the-variants.{One}
-use Rattle.units.specs.Units.{clocks, clocksWithin}
+use Rattle.units.specs.Units.{clocksWithin}
 use Rattle.wires.specs.Bits.{shiftOf, gatherFrom, fitsIn, spelled, groupOf}
 use Rattle.parts.specs.declared.Part.{Part}
 use Rattle.parts.specs.declared.Part.the-variants.{M, P}
@@ -17,7 +17,6 @@ use Rattle.opcodes.specs.Opcodes.{meaningOf}
 use Rattle.commands.specs.Registers.{mappedOf}
 use Rattle.record.specs.declared.devices.Device.{Device}
 use Rattle.record.specs.Fields.{armTo, underwayTo}
-use Rattle.record.specs.Fresh.{makeOf, freshOf}
 use Rattle.changes.specs.Latches.{latchMissing}
 use Rattle.state_check.specs.Values.{statusAllowed, cr3Allowed, cr4Allowed, configurationsAllowed, modeRegisterAllowed}
 use Rattle.state_check.specs.States.{modeAllowed, zeros, mramRegisters, psramRegisters, mramVolatile, psramVolatile, mramIdentity, psramIdentity, inRange}
@@ -30,19 +29,16 @@ use Rattle.paper.specs.Driving.{byteRead, levelAt}
 use Rattle.paper.specs.Answers.{judge, unarmed}
 use Rattle.paper.specs.Transaction.{World, sizedFor, roomFor, roomAfter, sampled, over, transactOf, powerOf}
 use Rattle.paper.specs.Examples.{blank, byte, address, answers}
+use Rattle.paper.specs.ExamplesOpen.{chip, facts, shut}
 use Rattle.machine_phases.specs.Machine.{toData, toWait, toAddress, commandStep, addressStep, waitStep, held, dataHeld, dataStep, stepOf, driveOf, runOf, outsOf}
 use Rattle.machine_end.specs.Finish.{outcomeOf, finishOf}
 use Rattle.machine_chunks.specs.Chunks.{phaseBy, resumeOf, opcodeAfter, openOf, feedOf, closeOf}
-use Rattle.paper.specs.ExamplesOpen.{facts}
 
-abbrev fresh : Part → Device
-fresh p = freshOf (makeOf p 10) (blank 8) (blank 8)
-
-abbrev lent : Part → Lent
+abbrev pub lent : Part → Lent
 lent p = record { memory = blank 1024; area = blank (areaOf p .0) }
 
 abbrev opened : Part → World
-opened p = openOf (fresh p) (lent p)
+opened p = openOf (chip p) (lent p)
 
 -- a chunk, with a buffer of its clocks and two bytes of room
 abbrev fed : World → List ℕ → World
@@ -60,30 +56,33 @@ abbrev says : World → ℕ → Bool
 says w a = answers w a (0 ∷ 0 ∷ 0 ∷ 0 ∷ 0 ∷ [])
 
 -- a write of 5Ah to 12h of the PSRAM, on one wire, and one byte read there
-abbrev writes : List ℕ
+abbrev pub writes : List ℕ
 writes = byte One 0x02 ++ (address One 0x12 ++ byte One 0x5A)
 
-abbrev reads : List ℕ
+abbrev pub reads : List ℕ
 reads = byte One 0x03 ++ (address One 0x12 ++ blank 8)
 
 abbrev at12 : World → ℕ
 at12 w = getD (w .lent .memory) 0x12 0
 
--- three clocks of a command, and a number of four bits: facts that no clocks leave
+-- facts that no clocks leave: with one open, a number of four bits after three clocks; with none open, any number
 abbrev damaged : Device
-damaged = underwayTo (facts 3 0 0 8 (blank 8)) (fresh M)
+damaged = underwayTo (facts 3 0 0 8 (blank 8)) (chip M)
+
+abbrev leftover : Device
+leftover = underwayTo (shut 1) (chip M)
 
 unfoldable pub examples : List Bool
 examples =
-    -- opened and closed without a clock: 4, and the arming falls
-    (let w = closed (openOf (armTo true (fresh M)) (lent M)) in says w 4 && not (w .device .volatile .armed))
+    -- opened and closed without a clock: 4, the arming falls, and none is open
+    (let w = closed (openOf (armTo true (chip M)) (lent M)) in says w 4 && (not (w .device .volatile .armed) && not (w .device .underway .selected)))
     -- a refused chunk: 2, and 1 for want of room; its clocks do not count, and the transaction goes on
     ∷ (let a = fed (fed (opened M) (take 5 (byte One 0x06))) (16 ∷ []) in
     let b = feedOf (a .device) (a .lent) (0 ∷ []) [] in
     says a 2
     && (says b 1
     && (eqb (b .device .underway .clocks .0) 5 && answers (closed (fed b (drop 5 (byte One 0x06)))) 0 (8 ∷ 0 ∷ 0 ∷ 0 ∷ 0 ∷ []))))
-    -- a write enable, its eight clocks one by one and chunks without a clock between: no latch before the close
+    -- a write enable, its eight clocks one by one, chunks without a clock before and behind them: no latch before the close
     ∷ (let c = fedAll (opened M) ([] ∷ map (λ x. x ∷ []) (byte One 0x06) ++ ([] ∷ [])) in
     let w = closed c in
     not (c .device .volatile .latch) && (answers w 0 (8 ∷ 0 ∷ 0 ∷ 0 ∷ 0 ∷ []) && w .device .volatile .latch))
@@ -94,7 +93,7 @@ examples =
     let e = fed c (drop 39 writes) in
     eqb (at12 c) 0 && (eqb (at12 e) 0x5A && answers (closed e) 0 (8 ∷ 24 ∷ 0 ∷ 8 ∷ 0 ∷ [])))
     -- what a read drives comes with its clocks, and the room past each chunk is kept
-    ∷ (let a = fed (openOf (fresh P) (fed (opened P) writes .lent)) (take 34 reads) in
+    ∷ (let a = fed (openOf (chip P) (fed (opened P) writes .lent)) (take 34 reads) in
     same (drop 32 (a .output)) (0x20 ∷ 0x22 ∷ 0xA5 ∷ 0xA5 ∷ [])
     && same (fed a (drop 34 reads) .output) (0x20 ∷ 0x22 ∷ 0x22 ∷ 0x20 ∷ 0x22 ∷ 0x20 ∷ 0xA5 ∷ 0xA5 ∷ []))
     -- a good open and a good feed answer 0 with counts 0
@@ -102,14 +101,17 @@ examples =
     -- 13: a second open, a feed or a close with none open, a transaction or a power cycle meanwhile
     ∷ (let c = opened M in
     says (openOf (c .device) (c .lent)) 13
-    && (says (feedOf (fresh M) (lent M) (blank 8) (blank 8)) 13
-    && (says (closeOf (fresh M) (lent M)) 13
+    && (says (feedOf (chip M) (lent M) (blank 8) (blank 8)) 13
+    && (says (closeOf (chip M) (lent M)) 13
     && (says (transactOf (c .device) (c .lent) (blank 8) (blank 8)) 13 && says (powerOf (c .device) (c .lent)) 13))))
     -- 3 comes before it, and with none open a bad sample is 2
-    ∷ (says (feedOf damaged (lent M) (blank 1) (blank 1)) 3
-    && (says (openOf damaged (lent M)) 3 && says (feedOf (fresh M) (lent M) (16 ∷ []) (blank 1)) 2))
+    ∷ (says (openOf damaged (lent M)) 3
+    && (says (transactOf damaged (lent M) (blank 8) (blank 8)) 3
+    && (says (powerOf damaged (lent M)) 3
+    && (says (feedOf leftover (lent M) (blank 1) (blank 1)) 3
+    && (says (closeOf leftover (lent M)) 3 && says (feedOf (chip M) (lent M) (16 ∷ []) (blank 1)) 2)))))
     -- 65,535 clocks are the most of all chunks together; one more is refused, none more is not
-    ∷ (let d = feedOf (underwayTo (facts 65534 0x77 0 0 (blank 8)) (fresh M)) (lent M) (0 ∷ []) (blank 1) in
+    ∷ (let d = feedOf (underwayTo (facts 65534 0x77 0 0 (blank 8)) (chip M)) (lent M) (0 ∷ []) (blank 1) in
     eqb (d .device .underway .clocks .0) 65535
     && (says (fed d (0 ∷ [])) 1 && (says (fed d []) 0 && answers (closed d) 5 (8 ∷ 0 ∷ 0 ∷ 0 ∷ 65527 ∷ []))))
     ∷ []

@@ -14,7 +14,7 @@ use borrow.Author.Tests.{ltb-true, ltb-false}
 use Rattle.units.specs.declared.Clocks.{Clocks}
 use Rattle.units.specs.declared.Bytes.{Bytes}
 use Rattle.units.specs.declared.Wires.{Wires}
-use Rattle.units.specs.Units.{clocks, less, upTo, fewerBytes, clocksOf, clocksWithin, wholeOf}
+use Rattle.units.specs.Units.{less, upTo, fewerBytes, clocksOf, clocksWithin, wholeOf}
 use Rattle.units.specs.Laws.{within-le}
 use Rattle.wires.specs.Bits.{shiftOf, gatherFrom}
 use Rattle.commands.specs.declared.plans.Body.{Body}

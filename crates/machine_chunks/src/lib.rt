@@ -6,7 +6,7 @@ ghost use lib.ListN.{length};
 ghost use Rattle.wires.specs.Bits.{gatherFrom};
 ghost use Rattle.counts.specs.Counts.{total};
 ghost use Rattle.paper.specs.Reading.{first};
-ghost use Rattle.contract_words.specs.Words.{lends, runAs};
+ghost use Rattle.contract_words.specs.Words.{lends};
 ghost use Rattle.machine_chunks.specs.Chunks.{phaseBy, resumeOf, opcodeAfter, pausedOf, Continued};
 use counts::Counts;
 use kinds::Kind;

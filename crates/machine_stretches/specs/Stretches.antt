@@ -6,7 +6,6 @@ use mathlib.Core.List.{List, _++_}
 use lib.Dec.{ltb}
 use lib.ListN.{length, take, drop}
 use Rattle.units.specs.declared.Clocks.{Clocks}
-use Rattle.units.specs.Units.{clocks}
 use Rattle.counts.specs.Counts.{total}
 use Rattle.record.specs.declared.devices.Device.{Device}
 use Rattle.record.specs.Devices.{settingOf}

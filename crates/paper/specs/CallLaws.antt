@@ -6,16 +6,18 @@ use mathlib.Core.Bool.{Bool, true, false, not}
 use mathlib.Core.List.{List, [], _∷_}
 use Rattle.basis.specs.Truth.{untrue, both-true, not-untrue}
 use Rattle.basis.specs.Decisions.{firstOf, leadingTo, NoneHolds, Among, no-row, by-rows, none-holds, first-map, first-told, ways-to, same-tests, tests-same, leading-back, among-all}
+use Rattle.units.specs.Units.{plus, atMost, longest}
 use Rattle.counts.specs.Counts.{noCounts}
 use Rattle.record.specs.declared.answers.Answer.{Answer}
 use Rattle.record.specs.declared.answers.Answer.the-variants.{Done}
 use Rattle.record.specs.declared.devices.Device.{Device}
 use Rattle.record.specs.Answers.{refuses}
+use Rattle.paper.specs.Reading.{many}
 use Rattle.paper.specs.Underway.{validOf}
 use Rattle.paper.specs.Storing.{Lent}
 use Rattle.paper.specs.Table.{by-row}
 use Rattle.paper.specs.Answers.{Facts, tableFor, judge}
-use Rattle.paper.specs.Transaction.{World, sizedFor, roomFor, sampled, refusal, guarded, transactChecks, powerChecks, poweredUp, clockedOf, transactOf, powerOf}
+use Rattle.paper.specs.Transaction.{World, sizedFor, roomFor, soFar, roomAfter, sampled, refusal, guarded, clockChecks, bareChecks, transactChecks, powerChecks, feedChecks, poweredUp, clockedOf, transactOf, powerOf}
 
 -- nothing has changed, and no clock is counted
 pub record Untouched (d : Device) (l : Lent) (out : List ℕ) (w : World) : Type 0 where
@@ -24,9 +26,22 @@ pub record Untouched (d : Device) (l : Lent) (out : List ℕ) (w : World) : Type
   pub lent : w .lent ≡ l
   pub output : w .output ≡ out
 
+-- a call by `v`, the answer of its checks: it is refused where that answer refuses, and else it is `made`
+pub record Decided (d : Device) (l : Lent) (out : List ℕ) (v : Answer) (made call : World) : Type 0 where
+  pub refused : refuses v ≡ true → refusal d l out v ≡ call
+  pub passed : refuses v ≡ false → made ≡ call
+
 -- every check of a list leads to a refusal
 abbrev pub Refusing : List (Bool × Answer) → Type 0
 Refusing cs = Among (λ v. refuses v ≡ true) cs
+
+-- of both lists
+module _ (d : Device) (l : Lent) (untimely : Bool) where
+  pub clock-refusing : (xs : List ℕ) (fits : Bool) → Refusing (clockChecks d l xs fits untimely)
+  clock-refusing xs fits = (refl, (refl, (refl, (refl, tt))))
+
+  pub bare-refusing : Refusing (bareChecks d l untimely)
+  bare-refusing = (refl, (refl, (refl, tt)))
 
 -- where a decision among them refuses nothing, none of them holds
 barred : (cs : List (Bool × Answer)) → Refusing cs → Among (λ v. not (refuses v) ≡ false) cs
@@ -70,13 +85,13 @@ module _ (d : Device) (l : Lent) (out : List ℕ) (cs : List (Bool × Answer)) (
   pub passed-by : Refusing cs → refuses (call .answer) ≡ false → NoneHolds cs
   passed-by h e = none-refuses (w .answer) cs h (sym (ap refuses answer-by) ∙ e)
 
-  -- THE CHECKS BY THEMSELVES: with the answer of the first that fails, or 0, the call is refused where that answer refuses, and else it is made
-  module _ {v : Answer} (e : v ≡ firstOf Done cs) where
-    pub checked-refused : refuses v ≡ true → refusal d l out v ≡ call
-    checked-refused r = ap (refusal d l out) e ∙ sym (first-told (refusal d l out) Done w refuses refl cs (sym (ap refuses e) ∙ r))
-
-    pub checked-made : Refusing cs → refuses v ≡ false → w ≡ call
-    checked-made h r = sym (made-by (checks-passed cs h e r))
+  -- THE CHECKS BY THEMSELVES: where `v` is the answer of the first that fails, or 0
+  pub decided-by : Refusing cs → {v : Answer} → v ≡ firstOf Done cs → Decided d l out v w call
+  decided-by h e =
+      record {
+        refused = λ r. ap (refusal d l out) e ∙ sym (first-told (refusal d l out) Done w refuses refl cs (sym (ap refuses e) ∙ r));
+        passed = λ r. sym (made-by (checks-passed cs h e r));
+      }
 
 -- ---- a transaction
 -- the answer table refuses nothing
@@ -119,7 +134,9 @@ module _ (d : Device) (l : Lent) (xs out : List ℕ) where
 
   pub accepted : refuses (transactOf d l xs out .answer) ≡ false → Accepted d l xs out
   unfolding transactOf
-  accepted e = accepting d l xs out (passed-by d l out (transactChecks d l xs out) (clockedOf d l xs out) (refl, (refl, (refl, (refl, tt)))) e)
+  accepted e =
+      accepting d l xs out
+      (passed-by d l out (transactChecks d l xs out) (clockedOf d l xs out) (clock-refusing d l (d .underway .selected) xs (roomFor xs out)) e)
 
   pub when-accepted : Accepted d l xs out → transactOf d l xs out ≡ clockedOf d l xs out
   unfolding transactOf
@@ -130,6 +147,22 @@ module _ (d : Device) (l : Lent) (xs out : List ℕ) where
   -- what a transaction that is not refused leaves is what its clocks leave
   pub not-refused : refuses (transactOf d l xs out .answer) ≡ false → transactOf d l xs out ≡ clockedOf d l xs out
   not-refused e = when-accepted (accepted e)
+
+-- ---- a chunk
+pub record ChunkAccepted (d : Device) (l : Lent) (xs out : List ℕ) : Type 0 where
+  pub sized : sizedFor d l ≡ true
+  pub few : atMost (plus (soFar (d .underway)) (many xs)) longest ≡ true
+  pub room : atMost (many xs) (many out) ≡ true
+  pub levels : sampled xs ≡ true
+  pub valid : validOf d ≡ true
+  pub turn : d .underway .selected ≡ true
+
+pub chunk-accepting : (d : Device) (l : Lent) (xs out : List ℕ) → NoneHolds (feedChecks d l xs out) → ChunkAccepted d l xs out
+unfolding roomAfter
+chunk-accepting d l xs out (sizes, (levels, (state, (turn, z)))) =
+    let b = both-true (sizedFor d l) (roomAfter (d .underway) xs out) (not-untrue _ sizes) in
+    let r = both-true (atMost (plus (soFar (d .underway)) (many xs)) longest) (atMost (many xs) (many out)) (b .1) in
+    record { sized = b .0; few = r .0; room = r .1; levels = not-untrue _ levels; valid = not-untrue _ state; turn = not-untrue _ turn }
 
 -- ---- a power cycle
 pub power-refused-so : (d : Device) (l : Lent) → refuses (powerOf d l .answer) ≡ true → Untouched d l [] (powerOf d l)

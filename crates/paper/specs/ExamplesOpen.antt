@@ -21,7 +21,8 @@ use Rattle.paper.specs.InForce.{asleepFor, refusedAt, stopped, decided, 
 use Rattle.paper.specs.Underway.{kindAt, countsAt, numberReached, reached, factless, underwayValid, validOf}
 use Rattle.paper.specs.Examples.{blank}
 
-abbrev chip : Part → Device
+-- chips of 1,024 bytes
+abbrev pub chip : Part → Device
 chip p = freshOf (makeOf p 10) (blank 8) (blank 8)
 
 -- so many clocks, an opcode, an address, a number, and the first bytes of a value
@@ -39,7 +40,7 @@ abbrev three : ℕ → ℕ → ℕ → List ℕ
 three b c d = b ∷ c ∷ d ∷ replicate 5 0
 
 -- none open, and a number all the same
-abbrev shut : ℕ → Underway
+abbrev pub shut : ℕ → Underway
 shut n = record { selected = false; clocks = clocks 0; opcode = 0; address = 0; number = n; value = none }
 
 abbrev holds : Device → List Underway → Bool

@@ -8,6 +8,7 @@ pub mod Answers
 pub mod Transaction
 pub mod Meanwhile
 pub mod ReadingLaws
+pub mod UnderwayLaws
 pub mod CallLaws
 pub mod Building
 pub mod Collecting

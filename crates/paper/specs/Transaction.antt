@@ -112,20 +112,20 @@ refusal d l out v = record { answer = v; counts = noCounts; device = d; lent = l
 abbrev pub guarded : List (Bool × Answer) → (Answer → World) → World → World
 guarded cs refuse w = firstOf w (leadingTo refuse cs)
 
--- those that every call ends with: 3, and 13 where `turn` tells that it is out of turn (document 02, P1)
+-- those that each list ends with: 3, and 13 for a call that is out of turn (document 02, P1)
 abbrev pub lastChecks : Device → Bool → List (Bool × Answer)
-lastChecks d turn = (not (validOf d), State) ∷ (turn, Turn) ∷ []
+lastChecks d untimely = (not (validOf d), State) ∷ (untimely, Turn) ∷ []
 
 -- of a call with clocks: `fits` tells whether they are few enough and have room
 abbrev pub clockChecks : Device → Lent → List ℕ → Bool → Bool → List (Bool × Answer)
-clockChecks d l xs fits turn =
+clockChecks d l xs fits untimely =
     (not (sizedFor d l && fits), Size)
     ∷ (not (sampled xs), Sample)
-    ∷ lastChecks d turn
+    ∷ lastChecks d untimely
 
 -- and of one without
 abbrev pub bareChecks : Device → Lent → Bool → List (Bool × Answer)
-bareChecks d l turn = (not (sizedFor d l), Size) ∷ lastChecks d turn
+bareChecks d l untimely = (not (sizedFor d l), Size) ∷ lastChecks d untimely
 
 -- a whole transaction and a power cycle want none open
 abbrev pub transactChecks : Device → Lent → List ℕ → List ℕ → List (Bool × Answer)

@@ -21,7 +21,6 @@ use record::Underway;
 use state_check::all_zero;
 use units::Bytes;
 use units::Clocks;
-use units::Wires;
 use wires::fits;
 
 // The kind of the command, once it is whole.

@@ -1,6 +1,6 @@
 -- `machine_chunks::gathered` meets its contract. The invariant: what is left of the first samples goes on from the number so far.
 -- Assumes nothing.
-use mathlib.Core.Path.{_≡_, refl, sym, _∙_}
+use mathlib.Core.Path.{_≡_, sym, _∙_}
 use Prim.Native.Nat.{_-_}
 use native.Mathlib.Omega.{arith}
 use native.Mathlib.Nat.{sub-zero}

@@ -1,7 +1,7 @@
 -- `units::Clocks::past` meets its contract: of no more clocks than are taken off nothing is left.
 -- Assumes nothing.
 use mathlib.Core.Path.{_≡_, sym, ap}
-use Prim.Native.Nat.{ℕ, _-_}
+use Prim.Native.Nat.{_-_}
 use native.Mathlib.Omega.{arith}
 use borrow.Author.Needs.{needs}
 use Rattle.units.specs.Units.{clocks}

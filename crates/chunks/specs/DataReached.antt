@@ -1,4 +1,4 @@
--- REACHED: whatever facts pass the state check, some samples leave just these. They are spelled out as the host spells a command. Document 02, P1.
+-- REACHED, the data: samples that leave a given number and a given value. Document 02, P1.
 -- Assumes nothing.
 use mathlib.Core.Path.{_≡_, refl, sym, ap, _∙_}
 use Prim.Native.Nat.{ℕ, zero, suc, _+_, _-_, _*_, _/_, _%_, _^_, _<_, _≤_}
@@ -14,7 +14,7 @@ use Rattle.basis.specs.Truth.{both-true}
 use Rattle.units.specs.declared.Bytes.{Bytes}
 use Rattle.units.specs.declared.Wires.{Wires}
 use Rattle.units.specs.declared.Wires.the-variants.{One, Two, Four}
-use Rattle.units.specs.Units.{clocks, bytes, wiresOf, perByte, clocksOf, clocksWithin, wholeOf, unfinishedOf, fewerBytes}
+use Rattle.units.specs.Units.{clocks, wiresOf, perByte, clocksOf, clocksWithin, wholeOf, unfinishedOf, fewerBytes}
 use Rattle.units.specs.Laws.{perByte-pos, within-le, lt-whole}
 use Rattle.wires.specs.Bits.{gather, fitsIn, spelled}
 use Rattle.wires.specs.Laws.{fits-lt, fits-none, gather-spread, spread-length}
@@ -35,7 +35,7 @@ use Rattle.commands.specs.Plans.{writes, bodyOf, readBody, writeBody, mappedBod
 use Rattle.record.specs.declared.devices.Setting.{Setting}
 use Rattle.state_check.specs.States.{zeros}
 use Rattle.paper.specs.InForce.{decided, bodyFor}
-use Rattle.paper.specs.Reading.{many, after, dataPart, dataOf, bytesIn, dataBytes}
+use Rattle.paper.specs.Reading.{dataPart, dataOf, bytesIn, dataBytes}
 use Rattle.paper.specs.Underway.{begunIn, keptIn}
 use Rattle.paper.specs.Storing.{valueByte, takeAll}
 use Rattle.paper.specs.Transaction.{sampled}
