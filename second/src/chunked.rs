@@ -26,9 +26,9 @@ fn cut(spot: Spot) -> Shown {
         spot.phase.word(),
         spot.wires
     );
-    // Of a wait, a read and the rest only none and some are told apart.
+    // Of a wait and the rest only none and some are told apart.
     let word = match spot.clocks {
-        1 if !spot.phase.gathers() => String::from("some"),
+        1 if !spot.phase.by_clock() => String::from("some"),
         clocks => clocks.to_string(),
     };
     (kind, word)

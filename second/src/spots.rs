@@ -72,6 +72,11 @@ impl Phase {
         )
     }
 
+    /// Whether chunks have to be cut at each clock of it, or of a byte in it.
+    pub fn by_clock(self) -> bool {
+        self.gathers() || self == Phase::Read
+    }
+
     /// The numbers of wires that the phase can be on.
     pub fn wires(self, part: &Part) -> Vec<u8> {
         if self == Phase::Area {
@@ -180,12 +185,11 @@ impl Spot {
         }
     }
 
-    /// The same where of a wait, a read and the rest only the beginning and all else
-    /// are told apart.
+    /// The same where of a wait and the rest only the beginning and all else are told
+    /// apart.
     pub fn rough(self) -> Spot {
-        let exact = self.phase.gathers();
         Spot {
-            clocks: if exact {
+            clocks: if self.phase.by_clock() {
                 self.clocks
             } else {
                 self.clocks.min(1)
@@ -203,7 +207,7 @@ impl Spot {
                 let clocks = match phase {
                     Phase::Command => 1..clocks_for_bits(8, wires),
                     Phase::Address => 0..clocks_for_bits(24, wires),
-                    _ if phase.gathers() => 0..clocks_for_bits(8, wires),
+                    _ if phase.by_clock() => 0..clocks_for_bits(8, wires),
                     _ => 0..2,
                 };
                 list.extend(clocks.map(|clocks| Spot {

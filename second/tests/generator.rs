@@ -37,7 +37,7 @@ fn same_bytes_on_every_machine() {
 }
 const TAPE: &str = "C102CFC0";
 const BUNDLE: &str = "283AAE22";
-const PROBES: &str = "F8CD7A73";
+const PROBES: &str = "EA01ED49";
 
 #[test]
 fn a_tape_has_about_as_many_records_as_asked() {

@@ -4,13 +4,13 @@
 mod common;
 
 use common::{at, join, on, Bench};
-use second::answer::Answer::{Sample, Size, State, Turn};
+use second::answer::Answer::{Done, Sample, Size, State, Turn};
 use second::chunked;
 use second::compact::digest;
 use second::courses::{answered, through};
 use second::device::{state_fits, MOST_CLOCKS};
 use second::facts::Open;
-use second::parts::{find, PARTS};
+use second::parts::{find, Part, PARTS};
 use second::probe::{probe_text, Call, Probe, Runner, CALLS, NO_RECORD};
 use second::refusals::{checks, refusals, Wanted};
 use second::rng::Rng;
@@ -233,6 +233,9 @@ fn spots_of_records() {
     assert_eq!(stand(43, 0x42, 0), spot(Phase::Area, 1, 3));
     assert_eq!(stand(33, 0x65, 0), spot(Phase::Wait, 1, 1));
     assert_eq!(stand(41, 0x65, 0), spot(Phase::Read, 1, 1));
+    assert_eq!(stand(47, 0x65, 0), spot(Phase::Read, 1, 7));
+    assert_eq!(stand(32 + 8 * 3, 3, 0), spot(Phase::Read, 1, 0));
+    assert_eq!(stand(32 + 8 * 3 + 5, 3, 0), spot(Phase::Read, 1, 5));
     assert_eq!(stand(50, 0x65, 0), spot(Phase::Rest(Why::PastRead), 1, 2));
     assert_eq!(stand(8, 6, 0), spot(Phase::Rest(Why::PastCommand), 1, 0));
     assert_eq!(stand(9, 1, 0), spot(Phase::Register, 1, 1));
@@ -247,6 +250,40 @@ fn spots_of_records() {
     chip.record.open.opcode = 0x38;
     chip.record.open.clocks = 15;
     assert_eq!(Spot::of(p, &chip.record), spot(Phase::Memory, 4, 1));
+}
+
+/// Of data, read or written, each clock of a byte is a place to cut at; of a wait and
+/// the rest only the beginning and all else are.
+#[test]
+fn spots_to_cut_at() {
+    for part in PARTS {
+        let list = Spot::list(part);
+        for phase in Phase::list(part) {
+            for wires in phase.wires(part) {
+                let byte_clocks = 8 / usize::from(wires);
+                let expected = match phase {
+                    Phase::Command => 1..byte_clocks,
+                    Phase::Address => 0..3 * byte_clocks,
+                    Phase::Wait | Phase::Rest(_) => 0..2,
+                    Phase::Read | Phase::Memory | Phase::Area | Phase::Register => 0..byte_clocks,
+                };
+                let here = |spot: &&Spot| spot.phase == phase && spot.wires == wires;
+                let found = list.iter().filter(here).map(|spot| spot.clocks);
+                assert!(found.eq(expected), "{phase:?} on {wires}");
+            }
+        }
+    }
+    let rough = |phase: Phase| {
+        Spot {
+            phase,
+            wires: 1,
+            clocks: 5,
+        }
+        .rough()
+    };
+    assert_eq!(rough(Phase::Read).clocks, 5);
+    assert_eq!(rough(Phase::Wait).clocks, 1);
+    assert_eq!(rough(Phase::Rest(Why::PastRead)).clocks, 1);
 }
 
 /// Made courses, records and damages are what they are made for.
@@ -383,4 +420,118 @@ fn coverage_sees_what_is_wrong() {
     assert!(wrong(&|outcome| outcome.record.armed = true));
     assert!(wrong(&|outcome| outcome.memory[5] ^= 1));
     assert!(wrong(&|outcome| outcome.answer = Turn));
+}
+
+/// What the coverage of chunks tells of these probes, and whether nothing is missing.
+fn coverage_of(list: &[Probe]) -> (String, bool) {
+    let mut runner = Runner::default();
+    let mut reached = chunked::Reached::default();
+    for probe in list {
+        let outcome = runner.run(probe).expect("a probe that runs");
+        reached.add(probe, &outcome);
+    }
+    let mut text = String::new();
+    let complete = reached.show(&mut text);
+    (text, complete)
+}
+
+/// The words of the line about cuts in read data on so many wires.
+fn cuts_in_read_data<'a>(text: &'a str, part: &Part, wires: u8) -> Vec<&'a str> {
+    let title = format!(
+        "  part {}, clocks before a cut in read data on {wires}: ",
+        part.word
+    );
+    let mut lines = text.lines();
+    let words = lines.find_map(|line| line.strip_prefix(&title));
+    words.expect("a line about it").split(", ").collect()
+}
+
+/// The same probes without a cut at this spot: the clocks behind it come with the
+/// chunk before it.
+fn without_cut(list: &[Probe], part: &Part, spot: Spot) -> Vec<Probe> {
+    let mut runner = Runner::default();
+    let mut kept: Vec<Probe> = Vec::new();
+    // The place of the last good chunk in a sequence.
+    let mut chunk = None;
+    for probe in list {
+        let outcome = runner.run(probe).expect("a probe that runs");
+        let before = &outcome.before;
+        if !probe.goes_on {
+            chunk = None;
+        }
+        let fed = probe.goes_on
+            && probe.call == Call::Feed
+            && outcome.answer == Done
+            && !probe.samples.is_empty();
+        match chunk {
+            Some(at) if fed && before.part == part.number && Spot::of(part, before) == spot => {
+                let longer: &mut Probe = &mut kept[at];
+                longer.samples.extend(&probe.samples);
+                longer.output_bytes += probe.samples.len();
+            }
+            _ => {
+                if fed {
+                    chunk = Some(kept.len());
+                }
+                kept.push(probe.clone());
+            }
+        }
+    }
+    kept
+}
+
+/// A read that is cut before each clock of one of its bytes.
+#[test]
+fn cuts_in_a_read_count_by_clock() {
+    let m = find(1).unwrap();
+    let first = 32 + 8;
+    let samples = join(&[&on(1, &join(&[&[0x03], &at(0x12)])), &[0; 24]]);
+    let mut list = vec![
+        probe(Call::Open, &[]),
+        going_on(Call::Feed, &samples[..first]),
+    ];
+    for clock in first..first + 7 {
+        list.push(going_on(Call::Feed, &samples[clock..clock + 1]));
+    }
+    list.push(going_on(Call::Feed, &samples[first + 7..]));
+    list.push(going_on(Call::Close, &[]));
+    let words = ["0=1", "1=1", "2=1", "3=1", "4=1", "5=1", "6=1", "7=1"];
+    let (text, _) = coverage_of(&list);
+    assert_eq!(cuts_in_read_data(&text, m, 1), words);
+    assert_eq!(cuts_in_read_data(&text, m, 2), ["0=0", "1=0", "2=0", "3=0"]);
+    assert_eq!(cuts_in_read_data(&text, m, 4), ["0=0", "1=0"]);
+    let spot = Spot {
+        phase: Phase::Read,
+        wires: 1,
+        clocks: 3,
+    };
+    let (text, _) = coverage_of(&without_cut(&list, m, spot));
+    let words = ["0=1", "1=1", "2=1", "3=0", "4=1", "5=1", "6=1", "7=1"];
+    assert_eq!(cuts_in_read_data(&text, m, 1), words);
+}
+
+/// Probes that show all else are incomplete without a cut before the last clock of a
+/// byte that is read.
+#[test]
+fn coverage_misses_a_cut_in_read_data() {
+    let list = probe_list(1, 2000);
+    let (text, complete) = coverage_of(&list);
+    assert!(complete, "{text}");
+    for part in PARTS {
+        for wires in Phase::Read.wires(part) {
+            let spot = Spot {
+                phase: Phase::Read,
+                wires,
+                clocks: 8 / usize::from(wires) - 1,
+            };
+            let (text, complete) = coverage_of(&without_cut(&list, part, spot));
+            assert!(!complete, "{spot:?}");
+            let missing = format!("{}=0", spot.clocks);
+            let words = cuts_in_read_data(&text, part, wires);
+            assert_eq!(words.last(), Some(&&missing[..]));
+            // It is the only one.
+            assert_eq!(text.matches("=0").count(), 1, "{text}");
+            assert!(text.ends_with("otherwise than they should be: 0\n"));
+        }
+    }
 }
