@@ -101,7 +101,7 @@ fn first_of(a: bool, v: Answer, b: bool, w: Answer) -> Answer
     Answer::Done
 }
 
-// The checks that each list ends with: the state, and then whose turn it is.
+// The checks that each list ends with: the state, and then whose turn it is. An untimely call is out of turn.
 fn last(d: Device, untimely: bool) -> Answer
     requires { ⌜ d .make .n ≤ 24 ⌝ }
     ensures { λ r. ⌜ r ≡ firstOf Done (lastChecks d untimely) ⌝ }

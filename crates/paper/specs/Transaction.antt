@@ -112,7 +112,7 @@ refusal d l out v = record { answer = v; counts = noCounts; device = d; lent = l
 abbrev pub guarded : List (Bool × Answer) → (Answer → World) → World → World
 guarded cs refuse w = firstOf w (leadingTo refuse cs)
 
--- those that each list ends with: 3, and 13 for a call that is out of turn (document 02, P1)
+-- those that each list ends with: 3, and 13 for a call that is untimely, out of turn (document 02, P1)
 abbrev pub lastChecks : Device → Bool → List (Bool × Answer)
 lastChecks d untimely = (not (validOf d), State) ∷ (untimely, Turn) ∷ []
 
