@@ -23,6 +23,7 @@ use Rattle.record.specs.Answers.{refuses}
 use Rattle.record.specs.Devices.{settingOf}
 use Rattle.record.specs.Fields.{noUnderway, underwayTo, closedOf}
 use Rattle.state_check.specs.States.{zeros, validFor, inRange}
+use Rattle.state_check.specs.StateLaws.{zeros-all}
 use Rattle.paper.specs.Underway.{factless, underwayValid, validOf}
 use Rattle.paper.specs.Storing.{Lent}
 use Rattle.paper.specs.Transaction.{World, sizedFor, roomFor, roomAfter, sampled, over, openChecks, feedChecks, closeChecks, clockedOf, transactOf}
@@ -39,7 +40,6 @@ use Rattle.demand_3.specs.Episodes.{Chip, Call, leaves, samplesOf}
 use Rattle.demand_3.specs.Programs.{joined}
 use Rattle.chunks.specs.Feeding.{left, after, fed-on, none-yet, closed-at, driven-at, lent-at}
 use Rattle.chunks.specs.Kept.{facts-reached}
-use Rattle.chunks.specs.DataReached.{zeros-all}
 use Rattle.chunks.specs.Typed.{Typed}
 use Rattle.chunks.specs.Runs.{run-size}
 

@@ -6,10 +6,10 @@ use native.Mathlib.Nat.{add-zero, mod-lt, mul-div-cancel, div-add-mod'}
 use native.Mathlib.Omega.{arith}
 use mathlib.Core.Bool.{Bool, true, false, cond}
 use mathlib.Core.List.{List, [], _∷_, _++_, append-nil, append-assoc}
-use lib.Dec.{ltb, eqb, lit≤}
+use lib.Dec.{ltb, lit≤}
 use lib.ListN.{length, take, drop, set, replicate, length-drop, length-append, length-replicate, take-append-drop, replicate-append-replicate}
 use lib.Seq.{take-all, take-at, drop-at, length-take-le}
-use borrow.Author.Tests.{ltb-true, ltb-false, eqb-true}
+use borrow.Author.Tests.{ltb-true, ltb-false}
 use Rattle.basis.specs.Truth.{both-true}
 use Rattle.units.specs.declared.Bytes.{Bytes}
 use Rattle.units.specs.declared.Wires.{Wires}
@@ -34,6 +34,7 @@ use Rattle.commands.specs.Registers.{bytesOf, mappedOf}
 use Rattle.commands.specs.Plans.{writes, bodyOf, readBody, writeBody, mappedBody}
 use Rattle.record.specs.declared.devices.Setting.{Setting}
 use Rattle.state_check.specs.States.{zeros}
+use Rattle.state_check.specs.StateLaws.{zeros-all}
 use Rattle.paper.specs.InForce.{decided, bodyFor}
 use Rattle.paper.specs.Reading.{dataPart, dataOf, bytesIn, dataBytes}
 use Rattle.paper.specs.Underway.{begunIn, keptIn}
@@ -49,13 +50,6 @@ use Rattle.chunks.specs.Kept.{byte-bits}
 -- ---- eight places
 abbrev nought : ℕ → List ℕ
 nought n = replicate n 0
-
-pub zeros-all : (v : List ℕ) (n : ℕ) → length v ≡ n → zeros v ≡ true → v ≡ replicate n 0
-unfolding zeros
-zeros-all [] zero h e = refl
-zeros-all [] (suc n) h e = absurd (omega arith)
-zeros-all (x ∷ v) zero h e = absurd (omega arith)
-zeros-all (x ∷ v) (suc n) h e = let b = both-true (eqb x 0) (zeros v) e in rw (eqb-true x 0 (b .0), zeros-all v n (omega arith) (b .1))
 
 set-at : (xs ys : List ℕ) (y b : ℕ) → set (xs ++ (y ∷ ys)) (length xs) b ≡ (xs ++ (b ∷ [])) ++ ys
 set-at [] ys y b = refl

@@ -26,6 +26,7 @@ use Rattle.commands.specs.declared.plans.Body.the-variants.{Nothing, FixedRead,
 use Rattle.record.specs.declared.devices.Underway.{Underway}
 use Rattle.record.specs.declared.devices.Setting.{Setting}
 use Rattle.state_check.specs.States.{zeros}
+use Rattle.state_check.specs.StateLaws.{zeros-all}
 use Rattle.paper.specs.InForce.{asleepFor, stopped, decided, commandClocks, wiresFor, addressClocks, waitClocks, bodyFor}
 use Rattle.paper.specs.Reading.{first, after, many, kindRead, addressRead, dataPart, dataOf, readingOf, bytesIn, dataBytes}
 use Rattle.paper.specs.Underway.{kindAt, countsAt, spelling, begunIn, keptIn, numberReached, reached}
@@ -39,7 +40,7 @@ use Rattle.demand_1_2.specs.Sent.{bytewise, sampled-append, sampled-silent, sam
 use Rattle.chunks.specs.Standing.{dataLeft, readNumber}
 use Rattle.chunks.specs.Kept.{byte-bits, address-bits}
 use Rattle.chunks.specs.Typed.{Typed}
-use Rattle.chunks.specs.DataReached.{DataFor, data-for, fixed-few, zeros-all}
+use Rattle.chunks.specs.DataReached.{DataFor, data-for, fixed-few}
 
 -- the value that the samples leave, from the data on and from the address on
 abbrev dataValue : Setting → Kind → ℕ → List ℕ → List ℕ

@@ -1,13 +1,16 @@
 -- Laws of the state check.
 -- Assumes nothing.
-use mathlib.Core.Path.{_≡_}
-use Prim.Native.Nat.{ℕ, _+_, _<_, _≤_}
+use mathlib.Core.Path.{_≡_, refl}
+use Prim.Native.Nat.{ℕ, zero, suc, _+_, _<_, _≤_}
 use native.Mathlib.Numerals.{add-one}
+use native.Mathlib.Omega.{arith}
 use mathlib.Core.Bool.{true, false}
-use mathlib.Core.List.{List}
-use lib.ListN.{length, getD, drop, drop-of-length-le}
+use mathlib.Core.List.{List, [], _∷_}
+use lib.Dec.{eqb}
+use lib.ListN.{length, getD, drop, replicate, drop-of-length-le}
 use lib.Seq.{drop-cons}
-use borrow.Author.Tests.{ne-eqb}
+use borrow.Author.Tests.{eqb-true, ne-eqb}
+use Rattle.basis.specs.Truth.{both-true}
 use Rattle.parts.specs.declared.Family.{Family}
 use Rattle.parts.specs.declared.Family.the-variants.{Mram, Psram}
 use Rattle.state_check.specs.States.{modeAllowed, zeros}
@@ -51,3 +54,11 @@ module _ (l : List ℕ) (i : ℕ) where
   pub zeros-end : length l ≤ i → zeros (drop i l) ≡ true
   unfolding zeros
   zeros-end h = rw (drop-of-length-le l h)
+
+-- bytes of which none is another than 0 are all 0
+pub zeros-all : (v : List ℕ) (n : ℕ) → length v ≡ n → zeros v ≡ true → v ≡ replicate n 0
+unfolding zeros
+zeros-all [] zero h e = refl
+zeros-all [] (suc n) h e = absurd (omega arith)
+zeros-all (x ∷ v) zero h e = absurd (omega arith)
+zeros-all (x ∷ v) (suc n) h e = let b = both-true (eqb x 0) (zeros v) e in rw (eqb-true x 0 (b .0), zeros-all v n (omega arith) (b .1))

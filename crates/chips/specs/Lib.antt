@@ -1,3 +1,0 @@
-pub mod Chips
-pub mod Words
-pub mod Laws
