@@ -1,6 +1,7 @@
 // Bytes gathered in a lent buffer: they are put at a place, and the place behind them comes back. What finds no room
 // is left out, and the place stays.
 ghost use mathlib.Core.Path.{_≡_};
+ghost use Prim.Native.Nat.{_+_, _*_};
 ghost use Rattle.buffers.specs.Page.{page, putOf, putsOf};
 
 // One byte.
@@ -26,4 +27,13 @@ pub fn put_all(buffer: &mut [u8], at: usize, bytes: &[u8]) -> usize
         i += 1;
     }
     to
+}
+
+// The number that four bytes are, the lowest first.
+pub fn number_of(a: u8, b: u8, c: u8, d: u8) -> u32
+    ensures { λ r. ⌜ r ≡ a + 256 * b + 65536 * (c + 256 * d) ⌝ }
+{
+    let low = a as u32 + 256 * (b as u32);
+    let high = c as u32 + 256 * (d as u32);
+    low + 65536 * high
 }

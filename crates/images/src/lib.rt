@@ -1,0 +1,1 @@
+// What holds of images from call to call: theorems, no code.
