@@ -1,11 +1,11 @@
 /* Tondravik for C: two serial MRAMs (part M and part M32, of 32 Mbit) and a serial PSRAM (part P), played clock by
- * clock, and the host half that builds samples and gathers bytes. C99. The archive, libcabi.a, is for x86-64 Linux, and
- * wants nothing of the C library but memset.
+ * clock, and the host half that builds samples and gathers bytes. C99 and C++. The archive, libcabi.a, is for x86-64
+ * Linux, and wants nothing of the C library but memset.
  *
- * WHAT IS PROVED. Each function here is proved to leave exactly what its definition says, in its answer and in every
- * buffer that is lent to it, for any numbers and any bytes; it ends, reads and writes nothing outside the buffers, and
- * keeps no state between calls. The definitions stand in crates/cabi/specs and crates/chips/specs. The compiler's back
- * end is tested, not proved.
+ * WHAT IS PROVED. Each function here leaves exactly what its definition says, in its answer and in every buffer that is
+ * lent to it, for any numbers and any bytes; it ends, reads and writes nothing outside the buffers, and keeps no state
+ * between calls. The definitions stand in crates/cabi/specs, crates/image_calls/specs and crates/image/specs. The
+ * compiler's back end is tested, not proved.
  *
  * WHAT C MUST ENSURE, since no proof can look beyond the call:
  *   - Each pointer comes with the length behind it, in elements. For the whole call that many elements are there: to
@@ -19,7 +19,10 @@
  *   - NULL only with length 0. An empty buffer may be NULL: nothing is read or written through it.
  *   - Calls go through these declarations, so that arguments have these types.
  *
- * Whatever a length can tell is looked at before the buffer: an empty, short or long buffer is answered, not followed.
+ * WHAT C NEED NOT ENSURE. An image may hold any bytes and have any length, also bytes that were never a chip's: they
+ * are looked at before use, and answered 3. Lengths, parts, samples and turns are answered too. An image may be copied,
+ * stored and taken up again at any time, also in the middle of a transaction: it is all that there is of a chip, but
+ * for its memory and its area.
  */
 #ifndef TONDRAVIK_H
 #define TONDRAVIK_H
@@ -31,10 +34,11 @@
 extern "C" {
 #endif
 
-/* The answers. Of the device, 1 to 3 refuse a call: nothing that was lent has changed, but that the five counts, where
- * there are five words for them, are 0. 4 to 12 decline a transaction: memory and area are as they were, the output has
- * one 00h for each clock, and the chip is no longer armed (with 9 its latch also moves as its write mode says). Of the
- * host half, every answer but 0 refuses: the buffer is as it was, and the number, where there is one word for it, is 0. */
+/* The answers. Of the device, 1, 2, 3 and 13 refuse a call: nothing that was lent has changed, but that the five
+ * counts, where there are five words for them, are 0. 4 to 12 decline a transaction: memory and area are as they were,
+ * the output has one 00h for each clock, and the chip is no longer armed (with 9 its latch also moves as its write
+ * mode says). 13 is a call out of turn: a transaction is open, or for feed and close none is. Of the host half, every
+ * answer but 0 refuses: the buffer is as it was, and the number, where there is one word for it, is 0. */
 enum {
     TONDRAVIK_DONE = 0,
     TONDRAVIK_SIZE = 1,
@@ -48,31 +52,42 @@ enum {
     TONDRAVIK_PROTECTED = 9,
     TONDRAVIK_RESERVED = 10,
     TONDRAVIK_LONG = 11,
-    TONDRAVIK_UNARMED = 12
+    TONDRAVIK_UNARMED = 12,
+    TONDRAVIK_TURN = 13
 };
 
 /* The parts. */
 enum { TONDRAVIK_PART_M = 1, TONDRAVIK_PART_P = 2, TONDRAVIK_PART_M32 = 3 };
 
-/* A chip is TONDRAVIK_CHIP bytes, all that it is but for its memory and its area. C may look at them and change them:
- * values that no chip has are answered 1 (part, n) or 3 (all others) by the next call. The bytes stand for chips with no
- * transaction open: no call here takes a transaction in chunks, and none is answered 13. */
+/* A chip is an image of TONDRAVIK_IMAGE bytes: all that it is, an open transaction included, but for its memory and its
+ * area. docs/IMAGE.md says what stands at each offset. Numbers of four bytes have the lowest byte first, a flag is 0 or
+ * 1, and bytes that have no name here are 0. C may look at an image and change it: one that no chip has is answered 3
+ * by the next call, before all else. The lines of this enum are those that `image_table` prints. */
 enum {
     TONDRAVIK_AT_PART = 0,
-    TONDRAVIK_AT_N = 1, /* the memory has 2^n bytes, n from 10 to 21, on part M32 to 22 */
-    TONDRAVIK_AT_STATUS = 2,
-    TONDRAVIK_AT_AREA_PROTECTION = 3,
-    TONDRAVIK_AT_CONFIGURATION_1 = 4, /* 2, 3 and 4 follow, one byte each */
-    TONDRAVIK_AT_MODE_REGISTER = 8,
-    TONDRAVIK_AT_BUS_MODE = 9, /* 1, 2 or 4 wires */
-    TONDRAVIK_AT_LATCH = 10,   /* this and the next three are flags, 0 or 1 */
-    TONDRAVIK_AT_ARMED = 11,
-    TONDRAVIK_AT_ASLEEP = 12,
-    TONDRAVIK_AT_TOGGLE = 13,
-    TONDRAVIK_AT_DEVICE_IDENTITY = 14, /* eight bytes, byte 0 first; an MRAM uses four of them, the others are 0 */
-    TONDRAVIK_AT_UNIQUE_NUMBER = 22,   /* eight bytes */
-    TONDRAVIK_AT_SERIAL_NUMBER = 30,   /* eight bytes */
-    TONDRAVIK_CHIP = 38
+    TONDRAVIK_AT_N = 1,
+    TONDRAVIK_AT_STATUS = 4,
+    TONDRAVIK_AT_AREA_PROTECTION = 5,
+    TONDRAVIK_AT_CONFIGURATION_1 = 6,
+    TONDRAVIK_AT_CONFIGURATION_2 = 7,
+    TONDRAVIK_AT_CONFIGURATION_3 = 8,
+    TONDRAVIK_AT_CONFIGURATION_4 = 9,
+    TONDRAVIK_AT_MODE_REGISTER = 10,
+    TONDRAVIK_AT_BUS_MODE = 11,
+    TONDRAVIK_AT_LATCH = 12,
+    TONDRAVIK_AT_ARMED = 13,
+    TONDRAVIK_AT_ASLEEP = 14,
+    TONDRAVIK_AT_TOGGLE = 15,
+    TONDRAVIK_AT_DEVICE_IDENTITY = 16,
+    TONDRAVIK_AT_UNIQUE_NUMBER = 24,
+    TONDRAVIK_AT_SERIAL_NUMBER = 32,
+    TONDRAVIK_AT_SELECTED = 64,
+    TONDRAVIK_AT_OPCODE = 65,
+    TONDRAVIK_AT_CLOCKS = 68,
+    TONDRAVIK_AT_ADDRESS = 72,
+    TONDRAVIK_AT_NUMBER = 76,
+    TONDRAVIK_AT_VALUE = 80,
+    TONDRAVIK_IMAGE = 128
 };
 
 /* The bytes of each part's area; part P has none, and its area is lent with length 0. */
@@ -91,34 +106,49 @@ enum {
     TONDRAVIK_COUNTS = 5
 };
 
-/* A fresh chip of part M: mode 1, latch down, disarmed, awake, registers and serial number as new. `device` is its
- * four bytes of device identity, `unique` its eight bytes of unique number.
- * First 3: the chip is not TONDRAVIK_CHIP bytes. Then 1: n is not 10 to 21, or device or unique has another length. The chip is
- * then as it was. Memory and area are C's to clear: a new chip's are all 0. */
+/* A fresh chip of part M: mode 1, latch down, disarmed, awake, registers and serial number as new, no transaction open.
+ * `device` is its four bytes of device identity, `unique` its eight bytes of unique number.
+ * First 3: the image is not TONDRAVIK_IMAGE bytes; what they held does not matter. Then 1: n is not 10 to 21, or device
+ * or unique has another length. The image is then as it was. Memory and area are C's to clear: a new chip's are 0. */
 uint8_t tondravik_fresh_m(uint8_t n, const uint8_t *device, size_t device_length, const uint8_t *unique,
-                          size_t unique_length, uint8_t *chip, size_t chip_length);
+                          size_t unique_length, uint8_t *image, size_t image_length);
 
 /* The same of part M32, whose n is 10 to 22. */
 uint8_t tondravik_fresh_m32(uint8_t n, const uint8_t *device, size_t device_length, const uint8_t *unique,
-                            size_t unique_length, uint8_t *chip, size_t chip_length);
+                            size_t unique_length, uint8_t *image, size_t image_length);
 
 /* A fresh chip of part P. `device` is its eight bytes of device identity. Answers as for part M, n from 10 to 21. */
-uint8_t tondravik_fresh_p(uint8_t n, const uint8_t *device, size_t device_length, uint8_t *chip, size_t chip_length);
+uint8_t tondravik_fresh_p(uint8_t n, const uint8_t *device, size_t device_length, uint8_t *image, size_t image_length);
 
-/* A transaction: all clocks between select low and select high. Each sample is 0 to 15, bit i the level on wire i.
+/* THE CALLS OVER AN IMAGE. Each does what it does over the record that the image stands for, and leaves the image of
+ * the next record, which the next call accepts. Before all others, 3: the image is not TONDRAVIK_IMAGE bytes, or no
+ * valid record has it, also one with a part or an n that there is not. Then, of the two that have words for counts, 1:
+ * there are not TONDRAVIK_COUNTS words, and they are as they were. Then the answers in the order of docs/MODEL.md.
+ *
+ * A transaction: all clocks between select low and select high. Each sample is 0 to 15, bit i the level on wire i.
  * Each clock gives one byte of output: low four bits levels, high four bits which wires the device drives, and 00h
- * where it drives none. Output past the clocks is kept.
- * Before all others, 3: the chip is not TONDRAVIK_CHIP bytes, or one of its flags is neither 0 nor 1; the counts are 0
- * where there are five words for them. Then 1: there are not TONDRAVIK_COUNTS words for the counts. Then the
- * answers in the order of docs/MODEL.md, "A transaction"; the counts are those of the answer. */
-uint8_t tondravik_transact(uint8_t *chip, size_t chip_length, uint8_t *memory, size_t memory_length, uint8_t *area,
+ * where it drives none. Output past the clocks is kept. The counts are those of the answer. */
+uint8_t tondravik_transact(uint8_t *image, size_t image_length, uint8_t *memory, size_t memory_length, uint8_t *area,
                            size_t area_length, const uint8_t *samples, size_t samples_length, uint8_t *output,
                            size_t output_length, size_t *counts, size_t counts_length);
 
-/* A power cycle. 0, or first 3 for the chip as above, then 1 (part, n, or the length of memory or area), then 3 (a value
- * that no chip has). */
-uint8_t tondravik_power_cycle(uint8_t *chip, size_t chip_length, uint8_t *memory, size_t memory_length,
+/* A power cycle; no clock is counted. */
+uint8_t tondravik_power_cycle(uint8_t *image, size_t image_length, uint8_t *memory, size_t memory_length,
                               const uint8_t *area, size_t area_length);
+
+/* The same transaction in chunks, as a probe delivers them: select goes low; */
+uint8_t tondravik_open(uint8_t *image, size_t image_length, const uint8_t *memory, size_t memory_length,
+                       const uint8_t *area, size_t area_length);
+
+/* the next clocks, none to 65,535 of them with those before; what they drive is in `output` at once, and a byte is
+ * stored with its last clock; */
+uint8_t tondravik_feed(uint8_t *image, size_t image_length, uint8_t *memory, size_t memory_length, uint8_t *area,
+                       size_t area_length, const uint8_t *samples, size_t samples_length, uint8_t *output,
+                       size_t output_length);
+
+/* and select goes high: the answer and the counts are those of the whole transaction, and registers change now. */
+uint8_t tondravik_close(uint8_t *image, size_t image_length, const uint8_t *memory, size_t memory_length,
+                        const uint8_t *area, size_t area_length, size_t *counts, size_t counts_length);
 
 /* The samples of a command. `mode` is the bus mode, 1, 2 or 4. `cr2` is configuration 2, used for opcode 4B only.
  * `wanted` is the number of bytes to read; a write has its bytes in `written`. How many samples there are goes to the

@@ -6,8 +6,9 @@ use std::collections::{BTreeMap, BTreeSet};
 
 use crate::answer::{Answer, Class};
 use crate::device::{transact, Record, MOST_CLOCKS};
+use crate::image::image_of;
 use crate::parts::{find, Part, PARTS};
-use crate::probe::{Call, Outcome, Probe, CALLS};
+use crate::probe::{Call, Outcome, Over, Probe, Task, CALLS};
 use crate::refusals::{pairs, refusals, Brink, BRINKS};
 use crate::rows::{self, Row};
 use crate::spots::{Phase, Spot};
@@ -20,7 +21,10 @@ fn shown(kind: &str, word: impl ToString) -> Shown {
     (String::from(kind), word.to_string())
 }
 
-fn cut(spot: Spot) -> Shown {
+fn cut(over: Over, spot: Spot) -> Shown {
+    if over == Over::Image {
+        return shown("a cut in", spot.phase.word());
+    }
     let kind = format!(
         "clocks before a cut in {} on {}",
         spot.phase.word(),
@@ -36,7 +40,7 @@ fn cut(spot: Spot) -> Shown {
 
 fn standing(call: Call, phase: Phase) -> Shown {
     (
-        format!("{} on a record open in", call.word()),
+        format!("{} with one open in", call.word()),
         String::from(phase.word()),
     )
 }
@@ -69,22 +73,33 @@ fn closed_after(what: impl ToString) -> Shown {
 
 const NO_CLOCKS: &str = "a chunk without clocks";
 const EMPTY: &str = "open and close without a clock";
+const BAD_FRESH: &str = "1 to a fresh chip";
 const FULL: &str = "65,535 clocks by chunks, one more refused, closed";
 
 fn sequence(word: &str) -> Shown {
     shown("sequence", word)
 }
 
-/// All that probes of this part have to show.
-fn wanted(part: &Part) -> Vec<Shown> {
-    let mut list: Vec<Shown> = Spot::list(part).into_iter().map(cut).collect();
-    list.extend([NO_CLOCKS, EMPTY, FULL].map(sequence));
+/// All that probes of this part have to show. Over images cuts are asked for by phase,
+/// and what else an image shows is asked for elsewhere.
+fn wanted(over: Over, part: &Part) -> Vec<Shown> {
+    let of_spot = |spot: Spot| cut(over, grain(over)(spot));
+    let mut list: Vec<Shown> = Spot::list(part).into_iter().map(of_spot).collect();
+    list.dedup();
+    list.extend([NO_CLOCKS, EMPTY].map(sequence));
     list.extend(CALLS.map(turn));
     list.extend([1, 2, 13].map(closed_after));
+    if over == Over::Image {
+        list.push(closed_after(BAD_FRESH));
+    }
     for call in [Call::Feed, Call::Close] {
         let of_call = |phase: Phase| standing(call, phase);
         list.extend(Phase::list(part).into_iter().map(of_call));
     }
+    if over == Over::Image {
+        return list;
+    }
+    list.push(sequence(FULL));
     list.extend(
         largest_list(part)
             .into_iter()
@@ -97,6 +112,14 @@ fn wanted(part: &Part) -> Vec<Shown> {
     list
 }
 
+/// How far spots are told apart.
+pub fn grain(over: Over) -> fn(Spot) -> Spot {
+    match over {
+        Over::Record => Spot::rough,
+        Over::Image => Spot::phase_alone,
+    }
+}
+
 /// A transaction that was opened by a probe, and the good chunks since.
 struct Opened {
     record: Record,
@@ -104,7 +127,7 @@ struct Opened {
     area: Vec<u8>,
     samples: Vec<u8>,
     /// What was refused since.
-    refused: BTreeSet<Answer>,
+    refused: BTreeSet<String>,
     one_more_refused: bool,
 }
 
@@ -122,15 +145,15 @@ impl Opened {
             &mut output,
         );
         told == (outcome.answer, outcome.counts)
-            && record == outcome.record
+            && image_of(&record) == outcome.image
             && memory == outcome.memory
             && area == outcome.area
     }
 }
 
-/// How often each of the list was shown.
-#[derive(Default)]
+/// How often each of the list was shown by calls over one thing.
 pub struct Reached {
+    over: Over,
     counts: BTreeMap<(u8, Shown), u64>,
     behind: BTreeMap<(Call, Answer, Answer), u64>,
     opened: Option<Opened>,
@@ -140,39 +163,86 @@ pub struct Reached {
 }
 
 impl Reached {
+    pub fn new(over: Over) -> Reached {
+        Reached {
+            over,
+            counts: BTreeMap::new(),
+            behind: BTreeMap::new(),
+            opened: None,
+            unexpected: 0,
+        }
+    }
+
     fn count(&mut self, part: &Part, shown: Shown) {
         *self.counts.entry((part.number, shown)).or_default() += 1;
     }
 
-    /// Counts the next probe of a file.
+    /// Counts the next probe of a file. What shows the checks counts only if it goes
+    /// over the one that is asked for.
     pub fn add(&mut self, probe: &Probe, outcome: &Outcome) {
-        let faults = refusals(probe, &outcome.before);
+        let over = match probe.task {
+            Task::Record(_) => Over::Record,
+            Task::Image(_) => Over::Image,
+            Task::Fresh(_) => return self.add_fresh(probe, outcome),
+        };
+        let Some(call) = probe.task.call() else {
+            return;
+        };
+        let asked = over == self.over;
+        let faults = refusals(over, call, probe, &outcome.before);
         let refused = outcome.answer.class() == Class::Refused;
         let as_asked = match faults.first() {
             Some(&first) => outcome.answer == first,
             None => !refused,
         };
         self.unexpected += u64::from(!as_asked);
-        for &later in faults.iter().skip(1) {
-            let pair = (probe.call, outcome.answer, later);
+        for &later in faults.iter().skip(1).filter(|_| asked) {
+            let pair = (call, outcome.answer, later);
             *self.behind.entry(pair).or_default() += 1;
         }
-        let Some(part) = find(outcome.before.part) else {
+        if !probe.goes_on {
+            self.opened = None;
+        }
+        let Some(before) = outcome.record_before() else {
+            return;
+        };
+        let Some(part) = find(before.part) else {
             return;
         };
         if !probe.goes_on {
-            self.opened = None;
-            self.add_single(part, probe, outcome, &faults);
-        } else if outcome.answer == Answer::Turn {
-            self.count(part, turn(probe.call));
+            if asked {
+                self.add_single(part, call, probe, &before, outcome, &faults);
+            }
+            if before.open.flag && !refused {
+                self.count(part, standing(call, Spot::of(part, &before).phase));
+            }
+        } else if asked && outcome.answer == Answer::Turn {
+            self.count(part, turn(call));
         }
-        self.add_to_sequence(part, probe, outcome);
+        self.add_to_sequence(part, call, probe, &before, outcome);
+    }
+
+    /// A fresh chip that is refused leaves an open transaction as it is.
+    fn add_fresh(&mut self, probe: &Probe, outcome: &Outcome) {
+        match &mut self.opened {
+            Some(opened) if probe.goes_on && outcome.answer == Answer::Size => {
+                opened.refused.insert(String::from(BAD_FRESH));
+            }
+            _ => self.opened = None,
+        }
     }
 
     /// What a call on its own shows.
-    fn add_single(&mut self, part: &Part, probe: &Probe, outcome: &Outcome, faults: &[Answer]) {
-        let before = &outcome.before;
-        if probe.call == Call::Feed {
+    fn add_single(
+        &mut self,
+        part: &Part,
+        call: Call,
+        probe: &Probe,
+        before: &Record,
+        outcome: &Outcome,
+        faults: &[Answer],
+    ) {
+        if call == Call::Feed {
             let found = Brink {
                 is_open: before.open.flag,
                 stated: before.open.clocks,
@@ -184,7 +254,7 @@ impl Reached {
                 self.count(part, brink(found));
             }
         }
-        if !before.open.flag && probe.call == Call::Feed {
+        if !before.open.flag && call == Call::Feed {
             // With one clock too many nothing else may be at fault.
             let too_many = probe.samples.len() > MOST_CLOCKS;
             let wanted: &[Answer] = if too_many {
@@ -203,7 +273,6 @@ impl Reached {
             }
         } else if before.open.flag && !refused {
             let spot = Spot::of(part, before);
-            self.count(part, standing(probe.call, spot.phase));
             if has_largest(spot, before) {
                 self.count(part, largest(spot.phase, spot.wires));
             }
@@ -211,11 +280,18 @@ impl Reached {
     }
 
     /// What a call shows as one of those that go on from each other.
-    fn add_to_sequence(&mut self, part: &Part, probe: &Probe, outcome: &Outcome) {
-        let (call, answer) = (probe.call, outcome.answer);
+    fn add_to_sequence(
+        &mut self,
+        part: &Part,
+        call: Call,
+        probe: &Probe,
+        before: &Record,
+        outcome: &Outcome,
+    ) {
+        let answer = outcome.answer;
         if call == Call::Open && answer == Answer::Done {
             self.opened = Some(Opened {
-                record: outcome.before,
+                record: *before,
                 memory: outcome.memory.clone(),
                 area: outcome.area.clone(),
                 samples: Vec::new(),
@@ -232,19 +308,19 @@ impl Reached {
                 if probe.samples.is_empty() {
                     self.count(part, sequence(NO_CLOCKS));
                 } else if !opened.samples.is_empty() {
-                    let spot = Spot::of(part, &outcome.before);
-                    self.count(part, cut(spot.rough()));
+                    let spot = grain(self.over)(Spot::of(part, before));
+                    self.count(part, cut(self.over, spot));
                 }
                 opened.samples.extend(&probe.samples);
             }
             (Call::Feed, Class::Refused) => {
-                opened.refused.insert(answer);
+                opened.refused.insert(answer.to_string());
                 let full = opened.samples.len() == MOST_CLOCKS;
                 let roomy = probe.output_bytes >= 1 && probe.samples.len() == 1;
                 opened.one_more_refused |= full && roomy && answer == Answer::Size;
             }
             (_, Class::Refused) => {
-                opened.refused.insert(answer);
+                opened.refused.insert(answer.to_string());
             }
             (Call::Close, _) => {
                 if opened.closed_by(outcome) {
@@ -273,7 +349,7 @@ impl Reached {
         *text += "transactions in chunks:\n";
         let mut list = Vec::new();
         for part in PARTS {
-            list.extend(wanted(part).into_iter().map(|shown| {
+            list.extend(wanted(self.over, part).into_iter().map(|shown| {
                 Row {
                     part,
                     count: self
@@ -290,7 +366,7 @@ impl Reached {
         *text += "calls, the refusal answered and one that held behind it:\n";
         for call in CALLS {
             let mut words = Vec::new();
-            for (first, later) in pairs(call) {
+            for (first, later) in pairs(self.over, call) {
                 let count = self.behind.get(&(call, first, later)).copied();
                 all &= count.is_some();
                 words.push(format!("{first} before {later}={}", count.unwrap_or(0)));

@@ -14,10 +14,12 @@ use crate::device::Record;
 use crate::edges::{self, Edge, Sent};
 use crate::faults::{faults, OF_BUILD, PAIRS_OF_BUILD, PAIRS_OF_GATHER};
 use crate::generate::{bad_chips, bundle};
+use crate::imaged;
+use crate::images::image_list;
 use crate::latched::{self, Seen};
 use crate::limits;
 use crate::parts::{Family, Part, FIRST_FREE_NUMBER, PARTS};
-use crate::probe::{self, Call, Runner};
+use crate::probe::{self, Call, Over, Runner, Task};
 use crate::request;
 use crate::rows::{self, Row};
 use crate::spoil::probe_list;
@@ -43,6 +45,16 @@ const ON_CLOSE: [Answer; 13] = [
     Done, Size, State, Short, Unknown, Asleep, Address, Latch, Protected, Reserved, Long, Unarmed,
     Turn,
 ];
+/// Answers that a call can give.
+pub fn answers_to(call: Call) -> &'static [Answer] {
+    match call {
+        Call::Transact => &ON_TRANSACTION,
+        Call::PowerCycle | Call::Open => &ON_POWER_CYCLE,
+        Call::Feed => &ON_FEED,
+        Call::Close => &ON_CLOSE,
+    }
+}
+
 /// Answers that a build can give.
 const ON_BUILD: [Answer; 7] = [Done, Size, Short, Unknown, Address, Reserved, Long];
 /// Answers that a gathering can give.
@@ -371,7 +383,9 @@ pub fn of_probes(seed: u64, count: usize) -> (String, bool) {
     let mut latched = latched::Reached::default();
     let mut edges = edges::Reached::default();
     let mut limits = limits::Reached::default();
-    let mut chunked = chunked::Reached::default();
+    let mut chunked = chunked::Reached::new(Over::Record);
+    let mut imaged = imaged::Reached::default();
+    let mut over_images = 0u64;
     let mut other_calls = [Call::PowerCycle, Call::Open, Call::Feed, Call::Close]
         .map(|call| (call, Tally::default()));
     let mut clocks = 0u64;
@@ -382,32 +396,34 @@ pub fn of_probes(seed: u64, count: usize) -> (String, bool) {
         let Some(outcome) = runner.run(&probe) else {
             return (String::from("a probe does not run\n"), false);
         };
-        file_bytes += probe::HEAD_BYTES + probe.samples.len();
+        file_bytes += probe::HEAD_BYTES + probe.image.len() + probe.samples.len();
         going_on += u64::from(probe.goes_on);
-        let (record, samples, answer) = (&outcome.before, &probe.samples, outcome.answer);
         chunked.add(&probe, &outcome);
+        imaged.add(&probe, &outcome);
+        over_images += u64::from(!matches!(probe.task, Task::Record(_)));
+        let (Some(call), Some(record)) = (probe.task.call(), outcome.record_before()) else {
+            continue;
+        };
+        let (samples, answer) = (&probe.samples, outcome.answer);
         // The other calls are refused on the records that show a limit.
-        let for_closed = matches!(probe.call, Call::Transact | Call::PowerCycle | Call::Open);
-        if for_closed && !probe.goes_on {
+        let for_closed = matches!(call, Call::Transact | Call::PowerCycle | Call::Open);
+        if for_closed && !probe.goes_on && probe.task == Task::Record(call) {
             limits.add(&probe, answer);
         }
-        if probe.call == Call::Transact {
+        if call == Call::Transact {
             clocks += samples.len() as u64;
             most_clocks = most_clocks.max(samples.len());
-            transactions.add(record, samples, answer);
-            latched.add_call(record, samples, answer);
-            let sent = Sent::new(record, samples, answer, &outcome.memory, &outcome.area);
+            transactions.add(&record, samples, answer);
+            latched.add_call(&record, samples, answer);
+            let sent = Sent::new(&record, samples, answer, &outcome.memory, &outcome.area);
             edges.add(sent.as_ref());
         }
-        for (_, tally) in other_calls
-            .iter_mut()
-            .filter(|(call, _)| *call == probe.call)
-        {
+        for (_, tally) in other_calls.iter_mut().filter(|(other, _)| *other == call) {
             tally.add_answer(record.part, answer);
         }
     }
     let mut text = format!(
-        "probes {count}: {going_on} go on, {file_bytes} bytes of file\n\
+        "probes {count}: {over_images} over images, {going_on} go on, {file_bytes} bytes of file\n\
          clocks of transactions {clocks}, most in one {most_clocks}\n"
     );
     let mut complete =
@@ -415,11 +431,7 @@ pub fn of_probes(seed: u64, count: usize) -> (String, bool) {
     complete &=
         transactions.show_answers_by_part("answers", &ON_TRANSACTION, can_answer, &mut text);
     for (call, tally) in &other_calls {
-        let wanted: &[Answer] = match call {
-            Call::Feed => &ON_FEED,
-            Call::Close => &ON_CLOSE,
-            _ => &ON_POWER_CYCLE,
-        };
+        let wanted = answers_to(*call);
         let title = format!("{} by answer:", call.word());
         complete &= tally.show_answers(&title, wanted, &mut text);
         complete &= tally.show_answers_by_part("answers", wanted, can_answer, &mut text);
@@ -430,6 +442,32 @@ pub fn of_probes(seed: u64, count: usize) -> (String, bool) {
     complete &= rows::show(&edges.rows(Edge::on_probes), &mut text);
     complete &= rows::show(&limits.rows(), &mut text);
     complete &= chunked.show(&mut text);
+    complete &= imaged.show_among_others(&mut text);
+    text += verdict(complete);
+    (text, complete)
+}
+
+/// Makes calls over images, runs them and tells what they reached.
+pub fn of_images(seed: u64, count: usize) -> (String, bool) {
+    let mut chunked = chunked::Reached::new(Over::Image);
+    let mut imaged = imaged::Reached::default();
+    let (mut file_bytes, mut going_on, mut fresh_chips) = (0, 0u64, 0u64);
+    let mut runner = Runner::default();
+    for probe in image_list(seed, count) {
+        let Some(outcome) = runner.run(&probe) else {
+            return (String::from("a probe does not run\n"), false);
+        };
+        file_bytes += probe::HEAD_BYTES + probe.image.len() + probe.samples.len();
+        going_on += u64::from(probe.goes_on);
+        fresh_chips += u64::from(matches!(probe.task, Task::Fresh(_)));
+        chunked.add(&probe, &outcome);
+        imaged.add(&probe, &outcome);
+    }
+    let mut text = format!(
+        "calls {count}: {fresh_chips} fresh chips, {going_on} go on, {file_bytes} bytes of file\n"
+    );
+    let mut complete = chunked.show(&mut text);
+    complete &= imaged.show(&mut text);
     text += verdict(complete);
     (text, complete)
 }

@@ -5,9 +5,9 @@ use std::collections::BTreeMap;
 
 use crate::answer::Answer::{self, Address, Done, Size, State};
 use crate::answer::Class;
-use crate::device::{state_fits, MOST_CLOCKS};
+use crate::device::{state_fits, Record, MOST_CLOCKS};
 use crate::parts::{find, Family, Part, FIRST_FREE_NUMBER, M32, PARTS};
-use crate::probe::{Call, Probe};
+use crate::probe::{Call, Probe, Task};
 use crate::reading::read;
 use crate::rows::Row;
 use crate::wires::clocks_for_bits;
@@ -80,11 +80,11 @@ impl Limit {
     }
 
     /// Whether this probe with this answer shows the limit of this part.
-    fn shown_by(&self, part: &Part, probe: &Probe, answer: Answer) -> bool {
-        let record = &probe.record;
+    fn shown_by(&self, part: &Part, record: &Record, probe: &Probe, answer: Answer) -> bool {
         let clocks = probe.samples.len();
         let clocks_fit = clocks <= MOST_CLOCKS && clocks <= probe.output_bytes;
-        if probe.call.takes_samples() && !clocks_fit {
+        let looks = probe.task.call().is_some_and(Call::takes_samples);
+        if looks && !clocks_fit {
             return false;
         }
         let is_part = record.part == part.number;
@@ -135,7 +135,7 @@ impl Limit {
                     && record.n == MOST_MADE_N
                     && record.status == status
                     && answer.class() != Class::Refused
-                    && burst(part, probe) == Some((opcode, address))
+                    && burst(part, record, probe) == Some((opcode, address))
                     && answer
                         == if address >> record.n == 0 {
                             Done
@@ -172,14 +172,14 @@ impl Limit {
 
 /// Opcode and address of a burst of two bytes or more that runs straight on, if the
 /// probe is one.
-fn burst(part: &Part, probe: &Probe) -> Option<(u8, u32)> {
-    if probe.call != Call::Transact {
+fn burst(part: &Part, record: &Record, probe: &Probe) -> Option<(u8, u32)> {
+    if probe.task != Task::Record(Call::Transact) {
         return None;
     }
-    let reading = read(part, &probe.record, &probe.samples);
+    let reading = read(part, record, &probe.samples);
     let (opcode, address) = (reading.opcode?, reading.address?);
     let clocks_of_two = clocks_for_bits(16, reading.command?.rest_wires) as u32;
-    let straight = opcode != 0x03 || probe.record.configurations[2] & 0x10 == 0;
+    let straight = opcode != 0x03 || record.configurations[2] & 0x10 == 0;
     (reading.clocks.data >= clocks_of_two && straight).then_some((opcode, address))
 }
 
@@ -188,15 +188,19 @@ fn burst(part: &Part, probe: &Probe) -> Option<(u8, u32)> {
 pub struct Reached(BTreeMap<(u8, Limit), u64>);
 
 impl Reached {
+    /// Counts a call over a record.
     pub fn add(&mut self, probe: &Probe, answer: Answer) {
+        let Some(record) = probe.record() else {
+            return;
+        };
         // A number that no part has goes with the part that all else is of.
-        let parts = match find(probe.record.part) {
+        let parts = match find(record.part) {
             Some(part) => vec![part],
             None => PARTS.to_vec(),
         };
         for part in parts {
             for limit in Limit::list(part) {
-                if limit.shown_by(part, probe, answer) {
+                if limit.shown_by(part, &record, probe, answer) {
                     *self.0.entry((part.number, limit)).or_default() += 1;
                 }
             }

@@ -4,19 +4,21 @@ use std::io::{self, BufWriter, Read, Write};
 use std::process::ExitCode;
 
 use second::pace::{Run, What};
-use second::{ask, compact, coverage, generate, probe, request, spoil, tape};
+use second::{ask, compact, coverage, generate, images, probe, request, spoil, tape};
 
 const USAGE: &str = "usage:
   second tape [FILE]
   second make tape SEED RECORDS
   second make bundle SEED TAPES RECORDS
   second make probes SEED COUNT
+  second make images SEED COUNT
   second make requests SEED COUNT
   second compact [BUNDLE]
   second probe [FILE]
   second host [FILE]
   second coverage SEED TAPES RECORDS
   second probe-coverage SEED COUNT
+  second image-coverage SEED COUNT
   second host-coverage SEED COUNT
   second pace read|write WIRES CLOCKS REPEATS N
   second pace gather WIRES CLOCKS REPEATS";
@@ -75,6 +77,9 @@ fn run(words: &[&str], out: &mut dyn Write) -> Result<(), String> {
         ["make", "probes", seed, count] => {
             out.write_all(&spoil::probes(number(seed)?, number(count)?))
         }
+        ["make", "images", seed, count] => {
+            out.write_all(&images::images(number(seed)?, number(count)?))
+        }
         ["make", "requests", seed, count] => {
             out.write_all(&ask::requests(number(seed)?, number(count)?))
         }
@@ -96,6 +101,10 @@ fn run(words: &[&str], out: &mut dyn Write) -> Result<(), String> {
         }
         ["probe-coverage", seed, count] => {
             let (text, _) = coverage::of_probes(number(seed)?, number(count)?);
+            out.write_all(text.as_bytes())
+        }
+        ["image-coverage", seed, count] => {
+            let (text, _) = coverage::of_images(number(seed)?, number(count)?);
             out.write_all(text.as_bytes())
         }
         ["host-coverage", seed, count] => {

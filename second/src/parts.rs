@@ -40,6 +40,8 @@ pub struct Part {
     pub wrap_lengths: &'static [usize],
     /// Bytes of the identity; the rest of the record's eight are 0.
     pub identity_bytes: usize,
+    /// Bytes of the unique number, 0 where there is none.
+    pub unique_bytes: usize,
     /// Address, register and size in bytes of all that opcode 65 finds. Only the
     /// first address of a long register is here.
     pub register_map: &'static [(u32, Register, usize)],
@@ -58,6 +60,7 @@ pub const M: Part = Part {
     section_bytes: 32,
     wrap_lengths: &[16, 32, 64, 128, 256],
     identity_bytes: 4,
+    unique_bytes: 8,
     register_map: &[
         (0x00, Register::Status, 1),
         (0x02, Register::Configuration(0), 1),
@@ -82,6 +85,7 @@ pub const P: Part = Part {
     section_bytes: 0,
     wrap_lengths: &[16, 32, 64, 512],
     identity_bytes: 8,
+    unique_bytes: 0,
     register_map: &[],
     fresh_configurations: [0; 4],
     fresh_mr0: 0x60,

@@ -6,8 +6,9 @@ use crate::answer::Answer::{self, Sample, Size, State, Turn};
 use crate::compose::{compose, Plan};
 use crate::device::{state_fits, Record, MOST_CLOCKS};
 use crate::facts::Open;
+use crate::image::{spelled, valid, IMAGE_BYTES};
 use crate::parts::{find, Part};
-use crate::probe::{Call, Probe, CALLS};
+use crate::probe::{Call, Over, Probe, CALLS};
 use crate::records::{ready_record, spoil_record};
 use crate::rng::Rng;
 use crate::spoil::whole_probe;
@@ -15,17 +16,18 @@ use crate::spots::{Phase, Why};
 use crate::standing::{any_standing, standing_probe};
 
 /// The refusals that a call can have, in the order of checking.
-pub fn checks(call: Call) -> &'static [Answer] {
-    if call.takes_samples() {
-        &[Size, Sample, State, Turn]
-    } else {
-        &[Size, State, Turn]
+pub fn checks(over: Over, call: Call) -> &'static [Answer] {
+    match (over, call.takes_samples()) {
+        (Over::Record, true) => &[Size, Sample, State, Turn],
+        (Over::Record, false) => &[Size, State, Turn],
+        (Over::Image, true) => &[State, Size, Sample, Turn],
+        (Over::Image, false) => &[State, Size, Turn],
     }
 }
 
 /// Pairs of refusals of a call that can hold at once, the earlier one first.
-pub fn pairs(call: Call) -> Vec<(Answer, Answer)> {
-    let checks = checks(call);
+pub fn pairs(over: Over, call: Call) -> Vec<(Answer, Answer)> {
+    let checks = checks(over, call);
     let mut list = Vec::new();
     for (at, &earlier) in checks.iter().enumerate() {
         list.extend(checks[at + 1..].iter().map(|&later| (earlier, later)));
@@ -33,40 +35,95 @@ pub fn pairs(call: Call) -> Vec<(Answer, Answer)> {
     list
 }
 
-/// Whether a call is for a record with a transaction open.
-fn wants_open(call: Call) -> bool {
-    matches!(call, Call::Feed | Call::Close)
+/// The record of an image of any length, as if it were cut or filled with zeros to
+/// the right one: it tells what else is at fault with a call over it.
+pub fn loosely_spelled(image: &[u8]) -> Option<Record> {
+    let mut image = image.to_vec();
+    image.resize(IMAGE_BYTES, 0);
+    spelled(&image)
 }
 
-/// Every refusal that holds for a call on this record, in the order of checking.
-pub fn refusals(probe: &Probe, record: &Record) -> Vec<Answer> {
-    let part = find(record.part);
-    let lent = part.is_some_and(|part| {
-        part.allows_n(record.n)
-            && probe.memory_bytes == 1 << record.n
-            && probe.area_bytes == part.area_bytes
-    });
-    let stated_clocks = if probe.call == Call::Feed && record.open.flag {
-        u64::from(record.open.clocks)
-    } else {
-        0
+/// One thing for which a call can be refused by 1, 2 or 13.
+#[derive(Clone, Copy, PartialEq, Eq, PartialOrd, Ord, Debug)]
+pub enum Fault {
+    Memory,
+    Area,
+    Output,
+    Clocks,
+    Sample,
+    Turn,
+}
+
+impl Fault {
+    /// All that a call can have.
+    pub fn list(call: Call) -> Vec<Fault> {
+        let mut list = vec![Fault::Memory, Fault::Area];
+        if call.takes_samples() {
+            list.extend([Fault::Output, Fault::Clocks, Fault::Sample]);
+        }
+        list.push(Fault::Turn);
+        list
+    }
+
+    pub fn answer(self) -> Answer {
+        match self {
+            Fault::Memory | Fault::Area | Fault::Output | Fault::Clocks => Size,
+            Fault::Sample => Sample,
+            Fault::Turn => Turn,
+        }
+    }
+
+    pub fn word(self) -> String {
+        format!("{} ({self:?})", self.answer()).to_lowercase()
+    }
+
+    /// Whether a call on this record has it. Memory and area are at fault only where
+    /// the part is one and offers the n.
+    fn holds(self, call: Call, probe: &Probe, record: &Record) -> bool {
+        let part = find(record.part).filter(|part| part.allows_n(record.n));
+        let stated_clocks = if call == Call::Feed && record.open.flag {
+            u64::from(record.open.clocks)
+        } else {
+            0
+        };
+        let chunk = probe.samples.len();
+        match self {
+            Fault::Memory => part.is_some() && probe.memory_bytes != 1 << record.n,
+            Fault::Area => part.is_some_and(|part| probe.area_bytes != part.area_bytes),
+            Fault::Output => chunk > probe.output_bytes,
+            Fault::Clocks => stated_clocks + chunk as u64 > MOST_CLOCKS as u64,
+            Fault::Sample => probe.samples.iter().any(|&sample| sample > 15),
+            Fault::Turn => record.open.flag != call.wants_open(),
+        }
+    }
+
+    /// All that hold for a call on this record.
+    pub fn all(call: Call, probe: &Probe, record: &Record) -> Vec<Fault> {
+        let mut list = Fault::list(call);
+        list.retain(|fault| fault.holds(call, probe, record));
+        list
+    }
+}
+
+/// Every refusal that holds for a call over this image or its record, in the order of
+/// checking.
+pub fn refusals(over: Over, call: Call, probe: &Probe, image: &[u8]) -> Vec<Answer> {
+    let Some(record) = loosely_spelled(image) else {
+        return Vec::new();
     };
-    let chunk = probe.samples.len();
-    let clocks_fit = stated_clocks + chunk as u64 <= MOST_CLOCKS as u64;
-    let fits = clocks_fit && chunk <= probe.output_bytes;
-    let looks = probe.call.takes_samples();
-    let holds = |&refusal: &Answer| match refusal {
-        Size => !lent || looks && !fits,
-        Sample => probe.samples.iter().any(|&sample| sample > 15),
-        // A record of no part has no state to look at.
-        State => part.is_some_and(|part| !state_fits(part, record)),
-        _ => record.open.flag != wants_open(probe.call),
+    let faults = Fault::all(call, probe, &record);
+    let offered = find(record.part).filter(|part| part.allows_n(record.n));
+    let holds = |&refusal: &Answer| match (refusal, over) {
+        // Of an image without a part, or with another n, 3 says so.
+        (Size, Over::Record) if offered.is_none() => true,
+        (State, Over::Image) => valid(image).is_none(),
+        // A record of no part, or with another n, has no state to look at.
+        (State, Over::Record) => offered.is_some_and(|part| !state_fits(part, &record)),
+        _ => faults.iter().any(|fault| fault.answer() == refusal),
     };
-    checks(probe.call)
-        .iter()
-        .copied()
-        .filter(|refusal| holds(refusal))
-        .collect()
+    let mut list = checks(over, call).to_vec();
+    list.retain(holds);
+    list
 }
 
 /// A call and what it is to be refused for; nothing where it is good.
@@ -82,7 +139,9 @@ impl Wanted {
     pub fn single() -> Vec<Wanted> {
         let mut list = Vec::new();
         for call in CALLS {
-            let all = [None].into_iter().chain(checks(call).iter().map(Some));
+            let all = [None]
+                .into_iter()
+                .chain(checks(Over::Record, call).iter().map(Some));
             list.extend(all.map(|first| Wanted {
                 call,
                 first: first.copied(),
@@ -96,7 +155,8 @@ impl Wanted {
     pub fn double() -> Vec<Wanted> {
         let mut list = Vec::new();
         for call in CALLS {
-            list.extend(pairs(call).into_iter().map(|(first, second)| Wanted {
+            let pairs = pairs(Over::Record, call);
+            list.extend(pairs.into_iter().map(|(first, second)| Wanted {
                 call,
                 first: Some(first),
                 second: Some(second),
@@ -105,14 +165,14 @@ impl Wanted {
         list
     }
 
-    fn has(&self, refusal: Answer) -> bool {
+    pub fn has(&self, refusal: Answer) -> bool {
         [self.first, self.second].contains(&Some(refusal))
     }
 
     /// A probe with these refusals and no others.
     pub fn probe(&self, rng: &mut Rng, part: &'static Part) -> Probe {
         let call = self.call;
-        let is_open = wants_open(call) != self.has(Turn);
+        let is_open = call.wants_open() != self.has(Turn);
         let mut probe = if is_open {
             any_standing(rng, part, call)
         } else {
@@ -129,9 +189,10 @@ impl Wanted {
         if self.has(State) {
             if rng.chance(1, 2) {
                 // No open transaction has such a number, and none at all without one.
-                probe.record.open.number |= 1 << (24 + rng.below(8));
+                let bit = 24 + rng.below(8);
+                probe.edit(|record| record.open.number |= 1 << bit);
             } else {
-                spoil_record(rng, &mut probe.record);
+                probe.edit(|record| spoil_record(rng, record));
             }
         }
         if self.has(Sample) {
@@ -201,12 +262,14 @@ impl Brink {
             Phase::Rest(Why::PastCommand),
         ]);
         let mut probe = standing_probe(rng, part, phase, Call::Feed);
-        let open = &mut probe.record.open;
-        if !self.is_open {
-            *open = Open::default();
-        }
-        open.clocks = self.stated;
-        open.number = 0;
+        probe.edit(|record| {
+            let open = &mut record.open;
+            if !self.is_open {
+                *open = Open::default();
+            }
+            open.clocks = self.stated;
+            open.number = 0;
+        });
         let samples = rng.bytes(self.fed);
         probe.samples = samples.iter().map(|byte| byte & 0x0F).collect();
         probe.output_bytes = self.fed + rng.below(3);

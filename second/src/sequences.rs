@@ -4,11 +4,12 @@
 use std::collections::{BTreeMap, BTreeSet};
 
 use crate::answer::Answer;
+use crate::chunked::grain;
 use crate::compose::{compose, disturb, push_idle, Plan};
 use crate::courses::{answered, through, Course};
-use crate::device::{Record, MOST_CLOCKS};
+use crate::device::{fresh, Record, MOST_CLOCKS};
 use crate::parts::{Family, Part, PARTS};
-use crate::probe::{Call, Probe, Runner, NO_RECORD};
+use crate::probe::{Call, Over, Probe, Runner, Task};
 use crate::rng::Rng;
 use crate::rounds::Rounds;
 use crate::spoil::whole_probe;
@@ -49,6 +50,8 @@ enum Between {
     Smaller(Call),
     /// A whole transaction with a bad sample.
     BadTransaction,
+    /// A fresh chip that is refused by 1; among calls over images alone.
+    BadFresh,
 }
 
 /// Those that have to come on every part.
@@ -72,10 +75,20 @@ const MORE_BETWEEN: [Between; 7] = [
     Between::BadTransaction,
 ];
 
+/// What the calls of a sequence go over.
+#[derive(Clone, Copy, PartialEq, Eq, Debug)]
+pub enum Mix {
+    /// All of them over the same.
+    All(Over),
+    /// Each over the one or the other.
+    Both,
+}
+
 /// A sequence in work. It runs as it grows, so that what comes later fits the record
 /// in force.
 struct Sequence<'a> {
     rng: &'a mut Rng,
+    mix: Mix,
     part: &'static Part,
     memory_bytes: usize,
     probes: Vec<Probe>,
@@ -84,9 +97,10 @@ struct Sequence<'a> {
 }
 
 impl<'a> Sequence<'a> {
-    fn new(rng: &'a mut Rng, part: &'static Part, record: Record) -> Sequence<'a> {
+    fn new(rng: &'a mut Rng, mix: Mix, part: &'static Part, record: Record) -> Sequence<'a> {
         Sequence {
             rng,
+            mix,
             part,
             memory_bytes: 1 << record.n,
             probes: Vec::new(),
@@ -95,20 +109,26 @@ impl<'a> Sequence<'a> {
         }
     }
 
-    /// A call that lends what it should. The first one of the sequence has the record.
+    /// A call that lends what it should. The first one of the sequence has the image.
     fn plain(&mut self, call: Call, samples: &[u8]) -> Probe {
-        let first = self.probes.is_empty();
-        Probe {
-            goes_on: !first,
-            record: if first { self.record } else { NO_RECORD },
-            memory_bytes: self.memory_bytes,
-            ..whole_probe(self.rng, call, self.part, self.record, samples.to_vec())
+        let over = match self.mix {
+            Mix::All(over) => over,
+            Mix::Both => self.rng.pick(&[Over::Record, Over::Image]),
+        };
+        let mut probe = whole_probe(self.rng, call, self.part, self.record, samples.to_vec());
+        probe.task = over.task(call);
+        probe.memory_bytes = self.memory_bytes;
+        if !self.probes.is_empty() {
+            probe.goes_on = true;
+            probe.image.clear();
         }
+        probe
     }
 
     fn add(&mut self, probe: Probe) {
-        if let Some(outcome) = self.runner.run(&probe) {
-            self.record = outcome.record;
+        let outcome = self.runner.run(&probe);
+        if let Some(record) = outcome.and_then(|outcome| outcome.record()) {
+            self.record = record;
         }
         self.probes.push(probe);
     }
@@ -129,6 +149,19 @@ impl<'a> Sequence<'a> {
         let opcode = self.rng.pick(&self.part.opcodes());
         let plan = Plan::default();
         compose(self.rng, self.part, &self.record, opcode, &[], &plan)
+    }
+
+    /// The samples of a transaction with nothing wrong in it.
+    fn sound_transaction(&mut self, opcode: u8) -> Vec<u8> {
+        let plan = Plan::sound();
+        compose(self.rng, self.part, &self.record, opcode, &[], &plan)
+    }
+
+    /// A fresh chip of this n.
+    fn fresh_chip(&mut self, n: u8) {
+        let plain = self.plain(Call::Open, &[]);
+        let probe = fresh_into(self.rng, plain, self.part, n);
+        self.add(probe);
     }
 
     /// Puts a call before this chunk.
@@ -156,9 +189,16 @@ impl<'a> Sequence<'a> {
                 let samples = self.some_transaction();
                 self.plain(Call::Transact, &samples)
             }
+            Between::BadFresh => {
+                let plain = self.plain(Call::Open, &[]);
+                let n = self
+                    .rng
+                    .pick(&[0, self.part.least_n - 1, self.part.most_n + 1]);
+                fresh_into(self.rng, plain, self.part, n)
+            }
         };
         match between {
-            Between::NoClocks | Between::Meanwhile(_) => {}
+            Between::NoClocks | Between::Meanwhile(_) | Between::BadFresh => {}
             Between::ShortOutput => probe.output_bytes = probe.samples.len() - 1,
             Between::LessMemory | Between::Smaller(_) => probe.memory_bytes = self.less(),
             Between::LessArea => {
@@ -201,9 +241,63 @@ impl<'a> Sequence<'a> {
     }
 }
 
+/// The same probe with a fresh chip as its task, of this n and with numbers that have
+/// the length they should.
+pub fn fresh_into(rng: &mut Rng, probe: Probe, part: &'static Part, n: u8) -> Probe {
+    Probe {
+        task: Task::Fresh(part),
+        n,
+        identity_bytes: part.identity_bytes,
+        unique_bytes: part.unique_bytes,
+        samples: rng.bytes(part.identity_bytes + part.unique_bytes),
+        ..probe
+    }
+}
+
+/// The life of a chip: a call over an image that no valid record has, a fresh chip into
+/// that image, which does something and goes through a power cycle and a reset that
+/// comes in a chunk, and another fresh chip while a transaction is open.
+pub fn life(rng: &mut Rng, part: &'static Part, flawed: Probe) -> Vec<Probe> {
+    let n = part.least_n + rng.pick(&[0, 0, 1, 2, 3]);
+    let record = fresh(part, n, [0; 8], [0; 8]);
+    let mut sequence = Sequence::new(rng, Mix::All(Over::Image), part, record);
+    sequence.add(Probe {
+        memory_bytes: 1 << n,
+        area_bytes: part.area_bytes,
+        ..flawed
+    });
+    sequence.fresh_chip(n);
+    // What makes the chip another one than a fresh one.
+    for opcode in match part.family {
+        Family::Mram => [0x06, 0x02],
+        Family::Psram => [0x02, 0xB1],
+    } {
+        let samples = sequence.sound_transaction(opcode);
+        sequence.call(Call::Transact, &samples);
+    }
+    sequence.call(Call::PowerCycle, &[]);
+    let samples = sequence.sound_transaction(0x66);
+    sequence.call(Call::Transact, &samples);
+    sequence.call(Call::Open, &[]);
+    let samples = sequence.sound_transaction(0x99);
+    sequence.call(Call::Feed, &samples);
+    sequence.call(Call::Close, &[]);
+    sequence.call(Call::Open, &[]);
+    let samples = sequence.sound_transaction(0x02);
+    let clocks = sequence.rng.below(samples.len() + 1);
+    sequence.call(Call::Feed, &samples[..clocks]);
+    sequence.fresh_chip(n);
+    sequence.call(Call::Close, &[]);
+    sequence.behind();
+    sequence.probes
+}
+
 /// Makes sequences one after the other. It keeps a list of what has to come and
 /// works it off, so that nothing is left to chance.
 pub struct Sequencer {
+    over: Over,
+    /// How far spots are told apart.
+    grain: fn(Spot) -> Spot,
     aims: Rounds<(&'static Part, Aim)>,
     /// Spots and answers that no sequence has had yet, by part number.
     missing: BTreeSet<(u8, Aim)>,
@@ -214,20 +308,29 @@ pub struct Sequencer {
 }
 
 impl Sequencer {
-    pub fn new(closes: impl Fn(&Part) -> Vec<Answer>) -> Sequencer {
+    /// What has to come between chunks goes over this.
+    pub fn new(closes: impl Fn(&Part) -> Vec<Answer>, over: Over) -> Sequencer {
+        let grain = grain(over);
+        let mut first_between = FIRST_BETWEEN.to_vec();
+        if over == Over::Image {
+            first_between.push(Between::BadFresh);
+        }
         let mut aims = Vec::new();
         for part in PARTS {
-            let cuts = Spot::list(part).into_iter().map(Aim::Cut);
+            let spots: BTreeSet<Spot> = Spot::list(part).into_iter().map(grain).collect();
+            let cuts = spots.into_iter().map(Aim::Cut);
             let closes = closes(part).into_iter().map(Aim::Close);
             let all = cuts.chain(closes).chain([Aim::Empty]);
             aims.extend(all.map(|aim| (part, aim)));
         }
         let missing = aims.iter().map(|&(part, aim)| (part.number, aim));
         let of_each_part = PARTS.map(|part| part.number);
-        let first = |part: u8| (part, Rounds::new(FIRST_BETWEEN.to_vec()));
+        let first = |part: u8| (part, Rounds::new(first_between.clone()));
         let more = |part: u8| (part, Rounds::new(MORE_BETWEEN.to_vec()));
         let behind = |part: u8| (part, Rounds::new(vec![Call::Feed, Call::Close]));
         Sequencer {
+            over,
+            grain,
             missing: missing.collect(),
             aims: Rounds::new(aims),
             first_between: of_each_part.map(first).into_iter().collect(),
@@ -260,7 +363,7 @@ impl Sequencer {
         let mut seen = BTreeSet::new();
         let mut list = Vec::new();
         for clocks in 1..course.samples.len().min(400) {
-            let spot = course.spot(clocks).rough();
+            let spot = (self.grain)(course.spot(clocks));
             let key = (course.part.number, Aim::Cut(spot));
             if self.missing.contains(&key) && seen.insert(spot) {
                 list.push((clocks, spot));
@@ -276,10 +379,19 @@ impl Sequencer {
     fn course(&self, rng: &mut Rng, part: &'static Part, aim: Aim) -> Course {
         match aim {
             Aim::Cut(spot) => {
-                let mut best = through(rng, part, spot.phase, spot.wires);
+                // Where only the phase is told any number of wires will do.
+                let all_wires = match spot.wires {
+                    0 => spot.phase.wires(part),
+                    wires => vec![wires],
+                };
+                let draw = |rng: &mut Rng| {
+                    let wires = rng.pick(&all_wires);
+                    through(rng, part, spot.phase, wires)
+                };
+                let mut best = draw(rng);
                 let mut most = self.missing_on(&best, aim).len();
                 for _ in 1..DRAFTS {
-                    let course = through(rng, part, spot.phase, spot.wires);
+                    let course = draw(rng);
                     let number = self.missing_on(&course, aim).len();
                     if number > most {
                         (best, most) = (course, number);
@@ -300,9 +412,13 @@ impl Sequencer {
     /// elsewhere by chance.
     fn cuts(&mut self, rng: &mut Rng, course: &Course, aim: Aim) -> Vec<usize> {
         let mut cuts = BTreeSet::new();
-        for (clocks, spot) in self.missing_on(course, aim) {
+        for (first, spot) in self.missing_on(course, aim) {
             self.missing.remove(&(course.part.number, Aim::Cut(spot)));
-            cuts.insert(clocks);
+            // Any place of the spot will do.
+            let last = course.samples.len().min(first + 40);
+            let here = |&clocks: &usize| (self.grain)(course.spot(clocks)) == spot;
+            let places: Vec<usize> = (first..last).filter(here).collect();
+            cuts.insert(rng.pick(&places));
         }
         let clocks = course.samples.len();
         let chance_cuts = if cuts.len() < 2 {
@@ -344,7 +460,9 @@ impl Sequencer {
         }
     }
 
-    pub fn next(&mut self, rng: &mut Rng) -> Vec<Probe> {
+    /// The next sequence. As long as some call has to come between chunks on its part,
+    /// it goes over what the list is for.
+    pub fn next(&mut self, rng: &mut Rng, mix: Mix) -> Vec<Probe> {
         let (part, aim) = self.aim(rng);
         let course = self.course(rng, part, aim);
         let nothing_missing = self.missing_on(&course, aim).is_empty();
@@ -357,15 +475,19 @@ impl Sequencer {
             self.aims.put_back((part, aim));
         }
         let lacking = self.lacks_between(part);
+        let mix = if lacking { Mix::All(self.over) } else { mix };
+        // Calls over images are few, so that as long as something is missing nothing
+        // comes that does not have to.
+        let thrifty = self.over == Over::Image && !self.missing.is_empty();
         let resumes = nothing_missing && !lacking && !cuts.is_empty() && rng.chance(1, 3);
         let mut first = 0;
-        let mut sequence = Sequence::new(rng, part, course.record);
+        let mut sequence = Sequence::new(rng, mix, part, course.record);
         if resumes {
             // Begins with one open, of which the record tells the facts.
             first = cuts.remove(0);
             sequence.record = course.standing(first);
         } else {
-            if sequence.rng.chance(1, 20) {
+            if !thrifty && sequence.rng.chance(1, 20) {
                 // None is open yet.
                 let call = sequence.rng.pick(&[Call::Close, Call::Feed]);
                 sequence.unopened(call);
@@ -377,11 +499,12 @@ impl Sequencer {
         // The chunks before which another call comes; the last is the close. The first
         // probe of all lends the whole memory.
         let least = usize::from(resumes);
-        let others: Vec<usize> = (0..sequence.rng.pick(if lacking {
-            &[1, 1, 1, 2]
-        } else {
-            &[0, 0, 1, 2]
-        }))
+        let numbers: &[usize] = match (lacking, thrifty) {
+            (true, _) => &[1, 1, 1, 2],
+            (false, true) => &[0],
+            (false, false) => &[0, 0, 1, 2],
+        };
+        let others: Vec<usize> = (0..sequence.rng.pick(numbers))
             .map(|_| least + sequence.rng.below(ends.len() + 1 - least))
             .collect();
         for number in 0..=ends.len() {
@@ -408,7 +531,9 @@ impl Sequencer {
         if let Some(call) = self.behind(sequence.rng, part) {
             sequence.unopened(call);
         }
-        sequence.behind();
+        if !thrifty {
+            sequence.behind();
+        }
         sequence.probes
     }
 }
@@ -456,7 +581,7 @@ pub fn brimful(rng: &mut Rng, part: &'static Part) -> Vec<Probe> {
         .collect();
     let last = MOST_CLOCKS - 1 - rng.below(30);
     cuts.insert(last);
-    let mut sequence = Sequence::new(rng, part, course.record);
+    let mut sequence = Sequence::new(rng, Mix::All(Over::Record), part, course.record);
     sequence.call(Call::Open, &[]);
     let mut first = 0;
     for end in cuts.into_iter().chain([MOST_CLOCKS]) {

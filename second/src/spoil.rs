@@ -1,5 +1,6 @@
 //! Seeded probes: valid records in all states, and records and sizes in which one
-//! or two things are wrong; most are off lists of what has to come.
+//! or two things are wrong, about a quarter of them over images; most are off lists of
+//! what has to come.
 
 use std::collections::VecDeque;
 
@@ -11,15 +12,18 @@ use crate::device::{Record, MOST_CLOCKS};
 use crate::doing::store_register;
 use crate::edges::Edge;
 use crate::facts::Open;
+use crate::flaws::{good_probe, Flaw};
+use crate::image::image_of;
+use crate::images::{all_faults, faulty_probe, Birth};
 use crate::latched::{Goal, Latched};
 use crate::limits::{Limit, MOST_MADE_N};
 use crate::parts::{others, strangers, Family, Part, FIRST_FREE_NUMBER, M, M32, P, PARTS};
-use crate::probe::{Call, Probe, CALLS};
+use crate::probe::{Call, Over, Probe, Task, CALLS};
 use crate::records::{ready_record, spoil_record, valid_record};
-use crate::refusals::{Brink, Wanted, BRINKS};
+use crate::refusals::{Brink, Fault, Wanted, BRINKS};
 use crate::rng::Rng;
-use crate::rounds::Rounds;
-use crate::sequences::{brimful, Sequencer};
+use crate::rounds::{Rounds, Shares};
+use crate::sequences::{brimful, Mix, Sequencer};
 use crate::spots::Phase;
 use crate::standing::{
     any_standing, damaged_probe, largest_list, largest_probe, standing_probe, Damage,
@@ -31,16 +35,17 @@ pub fn spoil_limits(rng: &mut Rng, part: &Part, probe: &mut Probe) {
     match rng.below(5) {
         0 => {
             // The memory has the size that this n would have.
-            probe.record.n = part.least_n - 1;
-            probe.memory_bytes = 1 << probe.record.n;
+            let n = part.least_n - 1;
+            probe.edit(|record| record.n = n);
+            probe.memory_bytes = 1 << n;
         }
-        1 => probe.record.n = part.most_n + 1,
-        2 => probe.record.n = rng.pick(&[0, 1, 8, 23, 24, 32, 63, 64, 255]),
-        3 => probe.record.part = rng.pick(&[0, free, free + 1, 255]),
+        1 => probe.edit(|record| record.n = part.most_n + 1),
+        2 => probe.edit(|record| record.n = rng.pick(&[0, 1, 8, 23, 24, 32, 63, 64, 255])),
+        3 => probe.edit(|record| record.part = rng.pick(&[0, free, free + 1, 255])),
         _ => {
             // Another part, with that part's area: every foreign field is left.
-            let other = rng.pick(&others(probe.record.part));
-            probe.record.part = other.number;
+            let other = rng.pick(&others(part.number));
+            probe.edit(|record| record.part = other.number);
             if rng.chance(1, 2) {
                 probe.area_bytes = other.area_bytes;
             }
@@ -86,13 +91,16 @@ pub fn whole_probe(
     samples: Vec<u8>,
 ) -> Probe {
     Probe {
-        call,
+        task: Task::Record(call),
         goes_on: false,
-        record,
+        seed: rng.byte(),
+        n: 0,
+        image: image_of(&record),
         memory_bytes: 1 << record.n,
         area_bytes: part.area_bytes,
         output_bytes: samples.len() + rng.pick(&[0, 0, 0, 1, 2, 7]),
-        seed: rng.byte(),
+        identity_bytes: 0,
+        unique_bytes: 0,
         samples,
     }
 }
@@ -164,13 +172,13 @@ fn limit_probe(rng: &mut Rng, part: &Part, limit: Limit) -> Probe {
     match limit {
         Limit::Area(bytes) => probe.area_bytes = bytes,
         Limit::N(n) => {
-            probe.record.n = n;
+            probe.edit(|record| record.n = n);
             if n <= MOST_MADE_N {
                 probe.memory_bytes = 1 << n;
             }
         }
         Limit::Memory(more) => probe.memory_bytes = (probe.memory_bytes as i64 + more) as usize,
-        Limit::NoPart(number) => probe.record.part = number,
+        Limit::NoPart(number) => probe.edit(|record| record.part = number),
         Limit::Code(_) | Limit::Large(..) => {}
     }
     probe
@@ -300,7 +308,7 @@ fn closed_probe(rng: &mut Rng, part: &Part) -> Probe {
 }
 
 /// Any probe.
-fn any_probe(rng: &mut Rng) -> Probe {
+pub fn any_probe(rng: &mut Rng) -> Probe {
     let part = rng.pick(&[&M, &M, &M, &M32, &M32, &M32, &P, &P]);
     let mut probe = if rng.chance(1, 4) {
         let call = rng.pick(&CALLS);
@@ -309,15 +317,15 @@ fn any_probe(rng: &mut Rng) -> Probe {
         closed_probe(rng, part)
     };
     // A power cycle has few ways to go wrong, so it is spoiled more often.
-    let spoiled = match probe.call {
-        Call::PowerCycle => rng.chance(1, 2),
+    let spoiled = match probe.task.call() {
+        Some(Call::PowerCycle) => rng.chance(1, 2),
         _ => rng.chance(1, 4),
     };
     if spoiled {
         for _ in 0..1 + rng.below(2) {
             match rng.below(10) {
-                0..=4 => spoil_record(rng, &mut probe.record),
-                5 => spoil_facts(rng, &mut probe.record.open),
+                0..=4 => probe.edit(|record| spoil_record(rng, record)),
+                5 => probe.edit(|record| spoil_facts(rng, &mut record.open)),
                 6 => spoil_limits(rng, part, &mut probe),
                 7 | 8 => spoil_sizes(rng, &mut probe),
                 _ => {
@@ -368,16 +376,16 @@ fn long_probes(rng: &mut Rng, part: &'static Part, long: Long) -> Vec<Probe> {
 }
 
 /// One of a list for each part.
-type OfPart<T> = (&'static Part, T);
+pub type OfPart<T> = (&'static Part, T);
 
 /// The lists of all parts in one.
-fn of_all_parts<T: Copy>(list: impl Fn(&Part) -> Vec<T>) -> Rounds<OfPart<T>> {
+pub fn of_all_parts<T: Copy>(list: impl Fn(&Part) -> Vec<T>) -> Rounds<OfPart<T>> {
     let of_one = |part: &'static Part| list(part).into_iter().map(move |one| (part, one));
     Rounds::new(PARTS.into_iter().flat_map(of_one).collect())
 }
 
 /// The answers that a part can give to a transaction which no check refuses.
-fn answers_of(part: &Part) -> Vec<Answer> {
+pub fn answers_of(part: &Part) -> Vec<Answer> {
     let mut list = ON_TRANSACTION.to_vec();
     list.retain(|&answer| answer.class() != Class::Refused && can_answer(part, answer));
     list
@@ -400,7 +408,66 @@ enum Kind {
     Standing,
     Damaged,
     Largest,
+    Births,
+    OverImage,
     Any,
+}
+
+impl Kind {
+    /// How many of four are over an image instead of its record. What shows the checks
+    /// of a record, or needs a large memory, never is.
+    fn over_images_of_four(self) -> usize {
+        match self {
+            Kind::Pairs | Kind::Latched | Kind::Edges | Kind::Answers | Kind::Standing => 1,
+            Kind::Any => 2,
+            _ => 0,
+        }
+    }
+}
+
+/// What sequences go over: about a quarter of the calls over images.
+const MIXES: [Mix; 8] = [
+    Mix::All(Over::Record),
+    Mix::All(Over::Record),
+    Mix::All(Over::Record),
+    Mix::All(Over::Record),
+    Mix::All(Over::Record),
+    Mix::All(Over::Image),
+    Mix::All(Over::Image),
+    Mix::Both,
+];
+
+/// A call over an image.
+#[derive(Clone, Copy)]
+enum OverImage {
+    Good,
+    /// No valid record has the image.
+    Flawed,
+    Faulty(Fault),
+}
+
+impl OverImage {
+    fn list() -> Vec<(Call, OverImage)> {
+        let both = |call: Call| [(call, OverImage::Good), (call, OverImage::Flawed)];
+        let mut list: Vec<(Call, OverImage)> = CALLS.into_iter().flat_map(both).collect();
+        let faulty = |(call, fault): (Call, Fault)| (call, OverImage::Faulty(fault));
+        list.extend(all_faults().into_iter().map(faulty));
+        list
+    }
+
+    fn probe(self, rng: &mut Rng, call: Call) -> Probe {
+        let part = rng.pick(&PARTS);
+        match self {
+            OverImage::Good => good_probe(rng, part, call, call.wants_open()).over_image(),
+            OverImage::Flawed => {
+                let mut list = Flaw::list(rng);
+                list.retain(|&(_, _, other)| other == call);
+                let (part, flaw, call) = rng.pick(&list);
+                flaw.probe(rng, part, call)
+            }
+            OverImage::Faulty(fault) => faulty_probe(rng, part, call, fault),
+        }
+    }
 }
 
 /// In so many probes every list has its first round.
@@ -408,24 +475,18 @@ const ROUND_PROBES: usize = 2000;
 /// As many of them are left to sequences, those of the most clocks aside.
 const SEQUENCE_PROBES: usize = 800;
 
-/// How many probes of a kind there are to be in a round, and how many there are.
-struct Share {
-    kind: Kind,
-    of_round: usize,
-    made: usize,
-}
-
 /// Makes probes one after the other. It keeps lists of what has to come and works
 /// them off, so that nothing is left to chance.
 struct Spoiler {
     rng: Rng,
-    shares: Vec<Share>,
+    shares: Shares<Kind>,
     made: usize,
     /// The rest of a sequence.
     waiting: VecDeque<Probe>,
     heavy: Rounds<OfPart<Limit>>,
     long: Rounds<OfPart<Long>>,
     sequencer: Sequencer,
+    mixes: Rounds<Mix>,
     pairs: Vec<Pair>,
     latched: Rounds<OfPart<Goal>>,
     edges: Rounds<OfPart<Edge>>,
@@ -437,6 +498,8 @@ struct Spoiler {
     standing: Rounds<OfPart<(Phase, Call)>>,
     damaged: Rounds<OfPart<Damage>>,
     largest: Rounds<OfPart<(Phase, u8)>>,
+    births: Rounds<OfPart<Birth>>,
+    over_image: Rounds<(Call, OverImage)>,
 }
 
 impl Spoiler {
@@ -467,12 +530,13 @@ impl Spoiler {
         let pairs = all_pairs(&mut rng);
         let mut spoiler = Spoiler {
             rng,
-            shares: Vec::new(),
+            shares: Shares::default(),
             made: 0,
             waiting: VecDeque::new(),
             heavy: of_all_parts(limits(true)),
             long: of_all_parts(long),
-            sequencer: Sequencer::new(answers_of),
+            sequencer: Sequencer::new(answers_of, Over::Record),
+            mixes: Rounds::new(MIXES.to_vec()),
             pairs,
             latched: of_all_parts(Goal::list),
             edges: of_all_parts(Edge::on_probes),
@@ -484,14 +548,14 @@ impl Spoiler {
             standing: of_all_parts(standing),
             damaged: of_all_parts(Damage::list),
             largest: of_all_parts(largest_list),
+            births: of_all_parts(Birth::list),
+            over_image: Rounds::new(OverImage::list()),
         };
         spoiler.shares = spoiler.all_shares();
         spoiler
     }
 
-    /// Each list has its length and a little more, so that all of it comes in a
-    /// round; what is left is for probes of any sort.
-    fn all_shares(&self) -> Vec<Share> {
+    fn all_shares(&self) -> Shares<Kind> {
         let lists = [
             (Kind::Heavy, self.heavy.round()),
             // One of each part is a sequence, of 16 probes at most.
@@ -508,20 +572,10 @@ impl Spoiler {
             (Kind::Standing, self.standing.round()),
             (Kind::Damaged, self.damaged.round()),
             (Kind::Largest, self.largest.round()),
+            (Kind::Births, self.births.round()),
+            (Kind::OverImage, self.over_image.round()),
         ];
-        let share = |(kind, length): (Kind, usize)| Share {
-            kind,
-            of_round: length + length / 24 + 1,
-            made: 0,
-        };
-        let mut shares: Vec<Share> = lists.into_iter().map(share).collect();
-        let listed: usize = shares.iter().map(|share| share.of_round).sum();
-        shares.push(Share {
-            kind: Kind::Any,
-            of_round: ROUND_PROBES.saturating_sub(listed),
-            made: 0,
-        });
-        shares
+        Shares::new(ROUND_PROBES, &lists, Kind::Any)
     }
 
     /// The next probe: the rest of a sequence, or one of the kind that is furthest
@@ -532,15 +586,9 @@ impl Spoiler {
             if let Some(probe) = self.waiting.pop_front() {
                 return probe;
             }
-            let made = self.made;
-            let behind = |share: &Share| {
-                let due = share.of_round * made;
-                due as i64 - (share.made * ROUND_PROBES) as i64
-            };
-            let furthest = (0..self.shares.len()).max_by_key(|&at| behind(&self.shares[at]));
-            let at = furthest.unwrap_or(0);
-            let probes = self.of_kind(self.shares[at].kind);
-            self.shares[at].made += probes.len().max(1);
+            let (at, kind) = self.shares.furthest_behind(self.made);
+            let probes = self.of_kind(kind);
+            self.shares.made(at, probes.len().max(1));
             self.waiting.extend(probes);
         }
     }
@@ -552,8 +600,22 @@ impl Spoiler {
                 Some((part, long)) => long_probes(rng, part, long),
                 None => Vec::new(),
             },
-            Kind::Sequences => self.sequencer.next(rng),
-            _ => self.one_of_kind(kind).into_iter().collect(),
+            Kind::Sequences => match self.mixes.take(rng) {
+                Some(mix) => self.sequencer.next(rng, mix),
+                None => Vec::new(),
+            },
+            _ => {
+                let probe = self.one_of_kind(kind);
+                let over_image = self.rng.chance(kind.over_images_of_four(), 4);
+                let turn = |probe: Probe| {
+                    if over_image {
+                        probe.over_image()
+                    } else {
+                        probe
+                    }
+                };
+                probe.map(turn).into_iter().collect()
+            }
         }
     }
 
@@ -611,6 +673,14 @@ impl Spoiler {
             Kind::Largest => {
                 let (part, (phase, wires)) = self.largest.take(rng)?;
                 largest_probe(rng, part, phase, wires)
+            }
+            Kind::Births => {
+                let (part, birth) = self.births.take(rng)?;
+                birth.probe(rng, part)
+            }
+            Kind::OverImage => {
+                let (call, over_image) = self.over_image.take(rng)?;
+                over_image.probe(rng, call)
             }
             Kind::Long | Kind::Sequences | Kind::Any => any_probe(rng),
         })

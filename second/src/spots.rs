@@ -198,6 +198,15 @@ impl Spot {
         }
     }
 
+    /// The same where only the phase is told.
+    pub fn phase_alone(self) -> Spot {
+        Spot {
+            wires: 0,
+            clocks: 0,
+            ..self
+        }
+    }
+
     /// All rough spots of this part at which chunks have to be cut; before the first
     /// clock there is nothing to cut.
     pub fn list(part: &Part) -> Vec<Spot> {

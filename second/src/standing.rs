@@ -25,6 +25,18 @@ pub enum Fact {
     Value,
 }
 
+impl Fact {
+    pub fn word(self) -> &'static str {
+        match self {
+            Fact::Clocks => "clocks",
+            Fact::Opcode => "opcode",
+            Fact::Address => "address",
+            Fact::Number => "number",
+            Fact::Value => "value",
+        }
+    }
+}
+
 const FACTS: [Fact; 5] = [
     Fact::Clocks,
     Fact::Opcode,
@@ -87,6 +99,14 @@ impl Damage {
         list
     }
 
+    /// Whether it may be in many phases, so that one part will do for each.
+    pub fn is_on_any_part(self) -> bool {
+        matches!(
+            self,
+            Damage::Border(_) | Damage::Stray(_) | Damage::Far(_) | Damage::Value(_)
+        )
+    }
+
     /// What damages of this sort are.
     pub fn kind(self) -> String {
         String::from(match self {
@@ -104,7 +124,7 @@ impl Damage {
 
     pub fn word(self) -> String {
         match self {
-            Damage::NoneOpen(fact) => format!("{fact:?}").to_lowercase(),
+            Damage::NoneOpen(fact) => String::from(fact.word()),
             Damage::Clocks(false) => String::from("65,536"),
             Damage::Clocks(true) => String::from("more"),
             Damage::Opcode | Damage::AddressEarly => String::from("too early"),
@@ -147,7 +167,7 @@ fn with(record: &Record, change: impl Fn(&mut Open)) -> Record {
 pub fn damages(part: &Part, record: &Record) -> Vec<Damage> {
     let open = record.open;
     let mut list = Vec::new();
-    if !registers_fit(part, record) {
+    if !part.allows_n(record.n) || !registers_fit(part, record) {
         return list;
     }
     if !open.flag {
@@ -339,6 +359,15 @@ fn phases(part: &Part, damage: Damage) -> Vec<Phase> {
 /// A call on a record in which one fact is wrong.
 pub fn damaged_probe(rng: &mut Rng, part: &'static Part, damage: Damage) -> Probe {
     let mut call = rng.pick(&CALLS);
+    // A feed would be refused by 1 for it.
+    if matches!(damage, Damage::Clocks(_)) && call == Call::Feed {
+        call = Call::Close;
+    }
+    damaged_call(rng, part, damage, call)
+}
+
+/// The same with a call that is given.
+pub fn damaged_call(rng: &mut Rng, part: &'static Part, damage: Damage, call: Call) -> Probe {
     if let Damage::NoneOpen(fact) = damage {
         let mut record = ready_record(rng, part);
         record.n = part.least_n;
@@ -370,10 +399,6 @@ pub fn damaged_probe(rng: &mut Rng, part: &'static Part, damage: Damage) -> Prob
     let some_address = 1 + rng.below(0xFF_FFFF) as u32;
     match damage {
         Damage::Clocks(many) => {
-            // A feed would be refused by 1 for it.
-            if call == Call::Feed {
-                call = Call::Close;
-            }
             open.clocks = if many {
                 rng.pick(&[65_537, 131_072, 1 << 31, u32::MAX])
             } else {

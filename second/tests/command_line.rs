@@ -47,6 +47,11 @@ fn made_input_goes_back_in() {
     let text = second(&["probe"], &probes).stdout;
     assert_eq!(text, second::probe::probe_text(&probes).into_bytes());
     assert_eq!(String::from_utf8_lossy(&text).lines().count(), 40);
+    let images = second(&["make", "images", "7", "40"], &[]).stdout;
+    assert_eq!(images, second::images::images(7, 40));
+    let text = second(&["probe"], &images).stdout;
+    assert_eq!(text, second::probe::probe_text(&images).into_bytes());
+    assert_eq!(String::from_utf8_lossy(&text).lines().count(), 40);
     let requests = second(&["make", "requests", "7", "50"], &[]).stdout;
     assert_eq!(requests, second::ask::requests(7, 50));
     let text = second(&["host"], &requests).stdout;
@@ -60,6 +65,9 @@ fn coverage_reports() {
     assert!(out.status.success());
     assert!(out.stdout.ends_with(b"coverage incomplete\n"));
     let out = second(&["probe-coverage", "1", "10"], &[]);
+    assert!(out.status.success());
+    assert!(out.stdout.ends_with(b"coverage incomplete\n"));
+    let out = second(&["image-coverage", "1", "10"], &[]);
     assert!(out.status.success());
     assert!(out.stdout.ends_with(b"coverage incomplete\n"));
     let out = second(&["host-coverage", "1", "10"], &[]);
@@ -97,6 +105,8 @@ fn errors() {
         &["make", "tape", "1"],
         &["make", "tape", "one", "2"],
         &["make", "probes", "1", "-1"],
+        &["make", "images", "1"],
+        &["image-coverage", "1"],
         &["tape", "no-such-file-here"],
         &["tape", "a", "b"],
         &["compact", "no-such-file-here"],

@@ -4,9 +4,10 @@
 mod common;
 use common::*;
 use second::edges::{self, Edge, Sent};
+use second::image::image_of;
 use second::limits;
 use second::parts::find;
-use second::probe::{Call, Probe};
+use second::probe::{Call, Probe, Task};
 use second::rng::Rng;
 use second::rounds::Rounds;
 use second::rows::Row;
@@ -219,7 +220,8 @@ fn lists_of_edges() {
 /// The words of the limits that one probe shows.
 fn limits_of(probe: &Probe) -> Vec<String> {
     let mut reached = limits::Reached::default();
-    reached.add(probe, probe.run().answer);
+    let outcome = probe.run().expect("a probe that runs");
+    reached.add(probe, outcome.answer);
     let rows = reached.rows();
     let counted = rows.iter().filter(|row| row.count > 0);
     counted
@@ -231,13 +233,16 @@ fn limits_of(probe: &Probe) -> Vec<String> {
 fn limits_of_probes() {
     let chip = Bench::m32();
     let good = Probe {
-        call: Call::Transact,
+        task: Task::Record(Call::Transact),
         goes_on: false,
-        record: chip.record,
+        seed: 1,
+        n: 0,
+        image: image_of(&chip.record),
         memory_bytes: 1024,
         area_bytes: 512,
         output_bytes: 8,
-        seed: 1,
+        identity_bytes: 0,
+        unique_bytes: 0,
         samples: on(1, &[0x06]),
     };
     let area = "M32: bytes of the area";
@@ -267,31 +272,31 @@ fn limits_of_probes() {
     probe.output_bytes = 7;
     assert!(limits_of(&probe).is_empty());
     let mut probe = good.clone();
-    probe.record.n = 23;
+    probe.edit(|record| record.n = 23);
     assert_eq!(limits_of(&probe), expected(&[(n, "23")]));
-    probe.record.n = 22;
+    probe.edit(|record| record.n = 22);
     assert!(limits_of(&probe).is_empty());
     let mut probe = good.clone();
-    probe.record.part = 4;
+    probe.edit(|record| record.part = 4);
     assert_eq!(limits_of(&probe), expected(&[(number, "4")]));
     let mut probe = good.clone();
-    probe.record.configurations[2] = 0x07;
+    probe.edit(|record| record.configurations[2] = 0x07);
     assert_eq!(
         limits_of(&probe),
         expected(&[(area, "512"), (n, "10"), (memory, "0"), (code, "7")])
     );
-    probe.record.status = 0x80;
+    probe.edit(|record| record.status = 0x80);
     assert!(!limits_of(&probe).contains(&format!("{code} 7")));
     // The largest memory.
     let mut probe = good.clone();
-    probe.record.n = 22;
+    probe.edit(|record| record.n = 22);
     probe.memory_bytes = 1 << 22;
     probe.samples = on(1, &burst(0x03, 0x3F_FFFF, 2));
     probe.output_bytes = probe.samples.len();
     let large = "M32: opcode, address and status in the largest memory";
     let word = (large, "03 3FFFFF 00");
     assert!(limits_of(&probe).contains(&expected(&[word])[0]));
-    probe.record.configurations[2] = 0x16;
+    probe.edit(|record| record.configurations[2] = 0x16);
     assert!(!limits_of(&probe).contains(&expected(&[word])[0]));
 }
 

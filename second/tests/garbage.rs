@@ -8,7 +8,10 @@ use second::compact::compact_text;
 use second::device::{power_cycle, transact, Record};
 use second::facts::Open;
 use second::host::{build, gather};
+use second::image::{self, image_of, place, valid};
+use second::parts::PARTS;
 use second::probe::probe_text;
+use second::records::valid_record;
 use second::request::host_text;
 use second::rng::Rng;
 use second::tape::bench;
@@ -75,12 +78,17 @@ fn random_probe_files() {
         let file = noise(&mut rng, 300);
         probe_text(&file);
     }
-    let good = second::spoil::probes(9, 20);
-    for _ in 0..200 {
-        let mut file = good.clone();
+    let files = [second::spoil::probes(9, 20), second::images::images(9, 40)];
+    for round in 0..300 {
+        let mut file = files[round % 2].clone();
         for _ in 0..4 {
-            // Mostly in the first heads, where it hurts; lengths stay modest.
-            let at = rng.below(40);
+            // In the first head and image, where it hurts; buffers stay modest.
+            let at = rng.pick(&[0, 1, 2, 3, 4, 5, 8, 12, 16, 20, 21, 24, 28, 32, 33]);
+            let at = if rng.chance(1, 2) {
+                at
+            } else {
+                32 + rng.below(128)
+            };
             file[at] = rng.byte();
         }
         probe_text(&file);
@@ -151,6 +159,58 @@ fn any_facts(rng: &mut Rng) -> Open {
             rng.eight()
         },
     }
+}
+
+/// Over any image that a call changes there is a valid one afterwards, and a refused
+/// one is as it was.
+#[test]
+fn random_images() {
+    let mut rng = Rng::new(19);
+    let mut answers = [0; 14];
+    for _ in 0..30_000 {
+        let part = rng.pick(&PARTS);
+        let mut image = image_of(&valid_record(&mut rng, part));
+        image[place::N] = image[place::N].min(12);
+        for _ in 0..rng.below(3) {
+            let at = rng.below(image.len());
+            image[at] = rng.pick(&[0, 1, 2, 255]);
+        }
+        if rng.chance(1, 20) {
+            image.truncate(rng.below(128));
+        }
+        let n = image.get(place::N).map_or(10, |&n| n.min(12));
+        let mut memory = vec![1; 1 << n];
+        let mut area = vec![2; part.area_bytes];
+        let mut output = vec![3; 60];
+        for _ in 0..4 {
+            let samples: Vec<u8> = noise(&mut rng, 50).iter().map(|byte| byte & 15).collect();
+            let before = (image.clone(), memory.clone(), area.clone(), output.clone());
+            let was_valid = valid(&image).is_some();
+            let (answer, counts) = match rng.below(5) {
+                0 => image::transact(&mut image, &mut memory, &mut area, &samples, &mut output),
+                1 => image::power_cycle(&mut image, &mut memory, &mut area),
+                2 => image::open(&mut image, &memory, &area),
+                3 => image::feed(&mut image, &mut memory, &mut area, &samples, &mut output),
+                _ => image::close(&mut image, &mut memory, &mut area),
+            };
+            answers[usize::from(answer.number())] += 1;
+            assert_eq!(answer == Answer::State, !was_valid);
+            assert_eq!(valid(&image).is_some(), was_valid);
+            if answer.class() == Class::Refused {
+                assert_eq!(counts, Counts::default());
+                assert_eq!(
+                    (image.clone(), memory.clone(), area.clone(), output.clone()),
+                    before
+                );
+            }
+        }
+    }
+    assert!(
+        [0, 1, 3, 4, 5, 13]
+            .iter()
+            .all(|&answer| answers[answer] > 20),
+        "{answers:?}"
+    );
 }
 
 #[test]

@@ -2,9 +2,13 @@
 
 use second::answer::Answer;
 use second::compact::{digest, take_tape};
-use second::coverage::{of_bundle, of_probes};
+use second::coverage::{of_bundle, of_images, of_probes};
+use second::device::Record;
 use second::generate::{bundle, tape};
+use second::image::image_of;
+use second::images::{image_list, images};
 use second::parts::Family;
+use second::probe::{Probe, Runner, Task};
 use second::spoil::{probe_list, probes};
 use second::tape::{run, Ending, Entry};
 use second::wires::collect;
@@ -23,9 +27,11 @@ fn same_seed_same_bytes() {
     assert_eq!(tape(5, 80), tape(5, 80));
     assert_eq!(bundle(5, 6, 30), bundle(5, 6, 30));
     assert_eq!(probes(5, 60), probes(5, 60));
+    assert_eq!(images(5, 60), images(5, 60));
     assert_ne!(tape(5, 80), tape(6, 80));
     assert_ne!(bundle(5, 6, 30), bundle(6, 6, 30));
     assert_ne!(probes(5, 60), probes(6, 60));
+    assert_ne!(images(5, 60), images(6, 60));
 }
 
 /// Fixed digests show that no machine makes other bytes.
@@ -34,10 +40,12 @@ fn same_bytes_on_every_machine() {
     assert_eq!(format!("{:08X}", digest(&tape(1, 100))), TAPE);
     assert_eq!(format!("{:08X}", digest(&bundle(1, 20, 40))), BUNDLE);
     assert_eq!(format!("{:08X}", digest(&probes(1, 200))), PROBES);
+    assert_eq!(format!("{:08X}", digest(&images(1, 200))), IMAGES);
 }
 const TAPE: &str = "C102CFC0";
 const BUNDLE: &str = "283AAE22";
-const PROBES: &str = "EA01ED49";
+const PROBES: &str = "6F781D5C";
+const IMAGES: &str = "3E7195D1";
 
 #[test]
 fn a_tape_has_about_as_many_records_as_asked() {
@@ -79,6 +87,18 @@ fn coverage_of_the_default_probes() {
         assert!(text.ends_with("coverage complete\n"));
     }
     let (text, complete) = of_probes(1, 10);
+    assert!(!complete);
+    assert!(text.ends_with("coverage incomplete\n"));
+}
+
+#[test]
+fn coverage_of_the_default_images() {
+    for seed in 1..=20 {
+        let (text, complete) = of_images(seed, 1000);
+        assert!(complete, "{text}");
+        assert!(text.ends_with("coverage complete\n"));
+    }
+    let (text, complete) = of_images(1, 100);
     assert!(!complete);
     assert!(text.ends_with("coverage incomplete\n"));
 }
@@ -187,17 +207,48 @@ fn probes_keep_to_their_limits() {
     for probe in &list {
         assert!(probe.memory_bytes <= 1 << 22);
         assert!(probe.area_bytes <= 600);
-        assert!(probe.output_bytes <= probe.samples.len() + 7);
+        let fresh = matches!(probe.task, Task::Fresh(_));
+        assert!(fresh || probe.output_bytes <= probe.samples.len() + 7);
+        // Over a record flags are 0 or 1, and spare bytes are 0.
+        if let (Task::Record(_), Some(record)) = (probe.task, probe.record()) {
+            assert_eq!(probe.image, image_of(&record));
+        }
     }
-    let short = |p: &&second::probe::Probe| p.output_bytes + 1 == p.samples.len();
+    let short = |p: &&Probe| p.output_bytes + 1 == p.samples.len();
     assert!(list.iter().filter(short).count() > 5);
+    let records: Vec<Record> = list.iter().filter_map(Probe::record).collect();
     for n in [9, 10, 21, 22, 23] {
-        assert!(list.iter().any(|p| p.record.n == n));
+        assert!(records.iter().any(|record| record.n == n));
     }
     for part in 0..5 {
-        assert!(list.iter().any(|p| p.record.part == part));
+        assert!(records.iter().any(|record| record.part == part));
     }
     // Filling the largest memory takes its time, so that few probes have one.
-    let largest = |p: &&second::probe::Probe| p.memory_bytes == 1 << 22;
+    let largest = |p: &&Probe| p.memory_bytes == 1 << 22;
     assert!((10..40).contains(&list.iter().filter(largest).count()));
+}
+
+#[test]
+fn calls_over_images_keep_to_their_limits() {
+    let list = image_list(1, 3000);
+    let mut runner = Runner::default();
+    let mut lengths = [0; 257];
+    for probe in &list {
+        assert!(!matches!(probe.task, Task::Record(_)));
+        assert!(probe.memory_bytes <= 1 << 16);
+        assert!(probe.area_bytes <= 600);
+        assert!(probe.samples.len() <= 70_000);
+        assert!(probe.image.len() <= 256);
+        assert!(!probe.goes_on || probe.image.is_empty());
+        lengths[probe.image.len()] += 1;
+        assert!(runner.run(probe).is_some());
+    }
+    for length in [0, 127, 128, 129, 130, 256] {
+        assert!(lengths[length] > 0, "{length}");
+    }
+    let clocks = |number: usize| list.iter().filter(|p| p.samples.len() == number).count();
+    assert!(clocks(65_536) > 5);
+    // Memories of more than one size, the largest among them.
+    let memory = |bytes: usize| list.iter().filter(|p| p.memory_bytes == bytes).count();
+    assert!((10..=16).all(|n| memory(1 << n) > 0));
 }

@@ -3,8 +3,9 @@
 mod common;
 use common::*;
 use second::compact::{compact_text, digest, hex};
+use second::image::image_of;
 use second::parts;
-use second::probe::{probe_text, Call, Probe};
+use second::probe::{probe_text, Call, Probe, Task};
 use second::tape::{bench, Entry, Next, Reader};
 
 const HEADER: &str = "record answer command address wait data rest\n";
@@ -269,17 +270,20 @@ fn probe_lines() {
     chip.record.status = 0x04;
     chip.record.latch = true;
     let probe = Probe {
-        call: Call::Transact,
+        task: Task::Record(Call::Transact),
         goes_on: false,
-        record: chip.record,
+        seed: 0xFE,
+        n: 0,
+        image: image_of(&chip.record),
         memory_bytes: 1024,
         area_bytes: 256,
         output_bytes: 9,
-        seed: 0xFE,
+        identity_bytes: 0,
+        unique_bytes: 0,
         samples: on(1, &[0x66]),
     };
     let mut file = probe.to_bytes();
-    assert_eq!(file.len(), 96 + 8);
+    assert_eq!(file.len(), 32 + 128 + 8);
     let memory: Vec<u8> = (0..1024u64)
         .map(|i| (0xFE + i * 7 + i / 251) as u8)
         .collect();
@@ -287,20 +291,21 @@ fn probe_lines() {
     let mut output: Vec<u8> = (0..9u64).map(|i| (0xFE + 11 + i * 13) as u8).collect();
     let kept = output.clone();
     output[..8].fill(0);
-    let tail = |armed: u8, output: &[u8]| {
+    let tail = |latch: u8, armed: u8, output: &[u8]| {
         format!(
-            "1 10 1 1{armed}00 04000008000500 E601150100000000 8172635445362718 0000000000000000 0 0 0 0 0 0000000000000000 {:08X} {:08X} {:08X}",
+            "010A000004000008000500010{latch}0{armed}0000E6011501000000008172635445362718{} {:08X} {:08X} {:08X}",
+            "00".repeat(96),
             digest(&memory),
             digest(&area),
             digest(output)
         )
     };
     let mut cycle = Probe {
-        call: Call::PowerCycle,
+        task: Task::Record(Call::PowerCycle),
         samples: vec![],
         ..probe.clone()
     };
-    cycle.record.latch = false;
+    cycle.edit(|record| record.latch = false);
     file.extend(cycle.to_bytes());
     let short = Probe {
         output_bytes: 7,
@@ -309,9 +314,9 @@ fn probe_lines() {
     file.extend(short.to_bytes());
     let expected = format!(
         "1 0 8 0 0 0 0 {}\n2 0 0 0 0 0 0 {}\n3 1 0 0 0 0 0 {}\n",
-        tail(1, &output),
-        tail(0, &kept).replace(" 1000 ", " 0000 "),
-        tail(0, &kept[..7])
+        tail(1, 1, &output),
+        tail(0, 0, &kept),
+        tail(1, 0, &kept[..7])
     );
     assert_eq!(probe_text(&file), expected);
     // Cut anywhere in the last probe.
@@ -321,10 +326,5 @@ fn probe_lines() {
         assert_eq!(probe_text(&file[..kept]), format!("{first_two}cut\n"));
     }
     assert_eq!(probe_text(&[]), "");
-    // Any byte but 0 is a true flag, and a round trip keeps the rest.
-    let mut bytes = probe.to_bytes();
-    bytes[5] = 0x80;
-    let read = Probe::take(&mut &bytes[..]).unwrap();
-    assert!(read.record.armed && read.record.latch && !read.record.asleep);
     assert_eq!(Probe::take(&mut &probe.to_bytes()[..]), Some(probe));
 }

@@ -2,10 +2,9 @@
 use bench_columns::column;
 use bench_columns::digest_column;
 use bench_columns::five;
+use counts::Counts;
 use record::Answer;
 use record::Device;
-use record::Outcome;
-use record::Underway;
 use record::answer_number;
 use record::is_refusal;
 use text::put;
@@ -16,9 +15,7 @@ use text::put_hex;
 use text::put_word;
 
 // The number of a call, its answer and its five counts.
-pub fn call_columns(text: &mut [u8], at: usize, k: u64, r: Outcome) -> usize {
-    let answer = r.answer;
-    let counts = r.counts;
+pub fn call_columns(text: &mut [u8], at: usize, k: u64, answer: Answer, counts: Counts) -> usize {
     let a = put_decimal(text, at, k);
     let b = column(text, a, answer_number(answer) as u64);
     five(text, b, counts)
@@ -61,36 +58,18 @@ fn registers(text: &mut [u8], at: usize, d: Device) -> usize {
 }
 
 // Eight bytes, byte 0 first.
-pub fn eight_column(text: &mut [u8], at: usize, bytes: [u8; 8]) -> usize {
+fn eight_column(text: &mut [u8], at: usize, bytes: [u8; 8]) -> usize {
     let a = put(text, at, b' ');
     put_bytes(text, a, &bytes)
 }
 
 // The chip's n and mode, its flags and registers.
-pub fn state_columns(text: &mut [u8], at: usize, d: Device) -> usize {
+fn state_columns(text: &mut [u8], at: usize, d: Device) -> usize {
     let v = d.volatile;
     let a = column(text, at, d.make.n as u64);
     let b = column(text, a, v.mode as u64);
     let c = flags(text, b, d);
     registers(text, c, d)
-}
-
-// What has come of the open transaction: opcode and address, the bits of what is not whole, the bytes of a register write.
-fn arrived(text: &mut [u8], at: usize, u: Underway) -> usize {
-    let value = u.value;
-    let a = column(text, at, u.opcode as u64);
-    let b = column(text, a, u.address as u64);
-    let c = column(text, b, u.number as u64);
-    eight_column(text, c, value)
-}
-
-// The open transaction: whether there is one, its clocks, and what has come of it.
-pub fn underway_columns(text: &mut [u8], at: usize, u: Underway) -> usize {
-    let clocks = u.clocks;
-    let a = put(text, at, b' ');
-    let b = flag(text, a, u.selected);
-    let c = column(text, b, clocks.in_clocks() as u64);
-    arrived(text, c, u)
 }
 
 // The name of the part, by its number in the list.

@@ -1,11 +1,11 @@
-// Probes of the device, one after the other on standard input, and for each one line with its answer, its counts, the whole
-// record that it left, and digests of memory, area and output. The second program prints the same.
+// Probes of the device, one after the other on standard input, and for each one line with its answer, its counts, the image that
+// it left, and digests of memory, area and output. The second program prints the same.
 use against_input::is_taken;
 use against_probes::Left;
 use against_probes::Probe;
 use against_probes::called;
-use against_probes::is_astray;
-use against_probes::is_call;
+use against_probes::image_of;
+use against_probes::is_called;
 use against_probes::left_by;
 use against_probes::no_probe;
 use against_probes::probe_of;
@@ -36,11 +36,20 @@ fn ended(t: Sequence, text: &mut [u8]) -> Sequence {
     }
 }
 
+// Takes a probe's image, where it brings one.
+fn is_image_taken(p: Probe, image: &mut [u8]) -> bool {
+    if p.on == 1 {
+        return true;
+    }
+    is_taken(image)
+}
+
 // Probe `k` with its samples, on what has the lengths that it asks for.
 fn run(
     t: Sequence,
     k: u64,
     p: Probe,
+    image: &mut [u8],
     memory: &mut [u8],
     area: &mut [u8],
     samples: &mut [u8],
@@ -52,11 +61,11 @@ fn run(
     }
     let page = t.page;
     let left = t.left;
-    let r = called(p, left, memory, area, samples, output);
-    let place = put_line(text, page.place, k, r, memory, area, output);
+    let r = called(p, image, memory, area, samples, output);
+    let place = put_line(text, page.place, k, r, image, memory, area, output);
     Sequence {
         page: going(text, place),
-        left: left_by(p, left, r),
+        left: left_by(p, left),
     }
 }
 
@@ -65,6 +74,7 @@ fn on_wires(
     t: Sequence,
     k: u64,
     p: Probe,
+    image: &mut [u8],
     memory: &mut [u8],
     area: &mut [u8],
     samples: &mut [u8],
@@ -84,6 +94,7 @@ fn on_wires(
         t,
         k,
         p,
+        image,
         memory,
         area,
         &mut samples[..long],
@@ -97,6 +108,7 @@ fn on_stores(
     t: Sequence,
     k: u64,
     p: Probe,
+    image: &mut [u8],
     memory: &mut [u8],
     area: &mut [u8],
     samples: &mut [u8],
@@ -116,8 +128,56 @@ fn on_stores(
         t,
         k,
         p,
+        image,
         &mut memory[..size],
         &mut area[..edge],
+        samples,
+        output,
+        text,
+    )
+}
+
+// The same where the probe's image is there, which comes before its samples.
+fn with_image(
+    t: Sequence,
+    k: u64,
+    p: Probe,
+    image: &mut [u8],
+    memory: &mut [u8],
+    area: &mut [u8],
+    samples: &mut [u8],
+    output: &mut [u8],
+    text: &mut [u8],
+) -> Sequence {
+    if !is_image_taken(p, image) {
+        return ended(t, text);
+    }
+    on_stores(t, k, p, image, memory, area, samples, output, text)
+}
+
+// The same with so much of the image as there is.
+fn on_image(
+    t: Sequence,
+    k: u64,
+    p: Probe,
+    image: &mut [u8],
+    memory: &mut [u8],
+    area: &mut [u8],
+    samples: &mut [u8],
+    output: &mut [u8],
+    text: &mut [u8],
+) -> Sequence {
+    let long = image_of(p, t.left);
+    if image.len() < long {
+        return ended(t, text);
+    }
+    with_image(
+        t,
+        k,
+        p,
+        &mut image[..long],
+        memory,
+        area,
         samples,
         output,
         text,
@@ -127,6 +187,7 @@ fn on_stores(
 fn turn(
     t: Sequence,
     k: u64,
+    image: &mut [u8],
     memory: &mut [u8],
     area: &mut [u8],
     samples: &mut [u8],
@@ -147,16 +208,20 @@ fn turn(
     if !h.whole {
         return ended(t, text);
     }
-    if !is_call(p.call) {
+    if !is_called(p, left) {
         return ended(t, text);
     }
-    if is_astray(p, left) {
-        return ended(t, text);
-    }
-    on_stores(t, k, p, memory, area, samples, output, text)
+    on_image(t, k, p, image, memory, area, samples, output, text)
 }
 
-fn all(memory: &mut [u8], area: &mut [u8], samples: &mut [u8], output: &mut [u8], text: &mut [u8]) {
+fn all(
+    image: &mut [u8],
+    memory: &mut [u8],
+    area: &mut [u8],
+    samples: &mut [u8],
+    output: &mut [u8],
+    text: &mut [u8],
+) {
     let mut t = Sequence {
         page: Printed { place: 0, go: true },
         left: no_probe(),
@@ -164,17 +229,25 @@ fn all(memory: &mut [u8], area: &mut [u8], samples: &mut [u8], output: &mut [u8]
     let mut k = 0;
     while k < 1000000 && t.page.go {
         k += 1;
-        t = turn(t, k, memory, area, samples, output, text);
+        t = turn(t, k, image, memory, area, samples, output, text);
     }
     text::flush(text, t.page.place);
 }
 
 // Memory and output come by value, since an argument's length is known by its type.
 fn play(mut memory: [u8; LARGEST_MEMORY], mut output: [u8; OUTPUT]) {
+    let mut image = [0u8; 256];
     let mut area = io::buffer();
     let mut samples = io::large_buffer();
     let mut text = io::large_buffer();
-    all(&mut memory, &mut area, &mut samples, &mut output, &mut text);
+    all(
+        &mut image,
+        &mut memory,
+        &mut area,
+        &mut samples,
+        &mut output,
+        &mut text,
+    );
 }
 
 fn main() {

@@ -3,7 +3,6 @@
 ghost use mathlib.Core.Path.{_≡_};
 ghost use lib.ListN.{length};
 use against_input::is_taken;
-use against_input::number_of;
 use bench_columns::Printed;
 use bench_columns::column;
 use bench_columns::cut;
@@ -11,6 +10,7 @@ use bench_columns::digest_column;
 use bench_columns::fill;
 use bench_columns::going;
 use bench_columns::stopped;
+use buffers::number_of;
 use host_order::Order;
 use record::answer_number;
 use text::put;

@@ -1,7 +1,6 @@
 // Input of the programs that are held against the second one. Many tapes in one input stand each behind its length in four
 // bytes.
-ghost use mathlib.Core.Path.{_≡_};
-ghost use Prim.Native.Nat.{_+_, _*_};
+use buffers::number_of;
 
 // Where a tape of the input ends: its number of bytes, or that the input ends before it.
 pub struct Loaded {
@@ -13,15 +12,6 @@ pub struct Loaded {
 // A tape that was taken, or not.
 fn took(whole: bool, last: bool, long: usize) -> Loaded {
     Loaded { whole, last, long }
-}
-
-// Four bytes, the lowest first.
-pub fn number_of(a: u8, b: u8, c: u8, d: u8) -> u32
-    ensures { λ r. ⌜ r ≡ a + 256 * b + 65536 * (c + 256 * d) ⌝ }
-{
-    let low = a as u32 + 256 * (b as u32);
-    let high = c as u32 + 256 * (d as u32);
-    low + 65536 * high
 }
 
 // Fills a buffer from standard input, and tells whether there was so much.

@@ -42,7 +42,9 @@ fn output_of(
 
 fn line(text: &mut [u8], at: usize, k: u64, r: Outcome) -> usize {
     let d = r.device;
-    let a = call_columns(text, at, k, r);
+    let answer = r.answer;
+    let counts = r.counts;
+    let a = call_columns(text, at, k, answer, counts);
     chip(text, a, d)
 }
 

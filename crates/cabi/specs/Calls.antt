@@ -1,80 +1,80 @@
--- The device's calls as C sees them: the chip as bytes, the answer as the papers' number, the counts in lent words.
+-- The calls over an image as C sees them: the answer as the papers' number, the counts in lent words.
 use Prim.Native.Nat.{ℕ}
-use mathlib.Core.Bool.{Bool, cond, _&&_}
+use mathlib.Core.Bool.{cond}
 use mathlib.Core.List.{List, []}
-use lib.Dec.{eqb}
-use lib.ListN.{length, replicate}
-use Rattle.parts.specs.declared.Part.{Part}
-use Rattle.parts.specs.declared.Part.the-variants.{M, P, M32}
-use Rattle.parts.specs.Parts.{offered}
-use Rattle.counts.specs.Counts.{noCounts}
-use Rattle.record.specs.declared.answers.Answer.the-variants.{Done, Size, State}
-use Rattle.record.specs.declared.devices.Device.{Device}
+use Rattle.record.specs.declared.answers.Answer.{Answer}
+use Rattle.record.specs.declared.answers.Answer.the-variants.{Size, State}
 use Rattle.record.specs.Answers.{answerNumber}
-use Rattle.record.specs.Fresh.{makeOf, freshOf}
 use Rattle.paper.specs.Storing.{Lent}
-use Rattle.paper.specs.Transaction.{World, refusal, transactOf, powerOf}
-use Rattle.record.specs.declared.devices.Outcome.{Outcome}
-use Rattle.contract_words.specs.Words.{lends, worldOf}
-use Rattle.chips.specs.Chips.{chipSize, isChip, chipOf, bytesOf}
-use Rattle.chips.specs.Words.{hasCounts, countsOver}
+use Rattle.contract_words.specs.Words.{lends}
+use Rattle.image_check.specs.Accepted.{accepted}
+use Rattle.image_calls.specs.declared.Reply.{Reply}
+use Rattle.image_calls.specs.Calls.{Imaged, transactIn, powerIn, openIn, feedIn, closeIn}
+use Rattle.image_calls.specs.Fresh.{Made, freshMIn, freshM32In, freshPIn}
+use Rattle.words.specs.Words.{hasCounts, countsOver}
 
--- ---- fresh chips, as bytes alone (D48)
-pub record Made : Type 0 where
+-- ---- fresh chips
+pub record Numbered : Type 0 where
   pub answer : ℕ
-  pub chip : List ℕ
+  pub image : List ℕ
 
-abbrev pub madeAs : ℕ → List ℕ → Made
-madeAs v chip = record { answer = v; chip = chip }
+abbrev pub numberedAs : ℕ → List ℕ → Numbered
+numberedAs v image = record { answer = v; image = image }
 
--- 3 for a buffer that is not a chip's length, 1 for anything asked for that no chip has; the buffer is then as it was
-abbrev pub made : Bool → Device → List ℕ → Made
-made fits d chip =
-    cond (eqb (length chip) chipSize) (cond fits (madeAs (answerNumber Done) (bytesOf d)) (madeAs (answerNumber Size) chip)) (madeAs (answerNumber State) chip)
+abbrev pub madeFrom : Made → Numbered
+madeFrom m = numberedAs (answerNumber (m .answer)) (m .image)
 
--- a part of the MRAM, with four bytes of device identity and a unique number
-unfoldable pub freshMramIn : Part → ℕ → List ℕ → List ℕ → List ℕ → Made
-freshMramIn p n device unique chip = made (offered p n && (eqb (length device) 4 && eqb (length unique) 8)) (freshOf (makeOf p n) device unique) chip
+unfoldable pub freshMFrom : ℕ → List ℕ → List ℕ → List ℕ → Numbered
+freshMFrom n device unique image = madeFrom (freshMIn n device unique image)
 
-abbrev pub freshMIn : ℕ → List ℕ → List ℕ → List ℕ → Made
-freshMIn n device unique chip = freshMramIn M n device unique chip
+unfoldable pub freshM32From : ℕ → List ℕ → List ℕ → List ℕ → Numbered
+freshM32From n device unique image = madeFrom (freshM32In n device unique image)
 
-abbrev pub freshM32In : ℕ → List ℕ → List ℕ → List ℕ → Made
-freshM32In n device unique chip = freshMramIn M32 n device unique chip
+unfoldable pub freshPFrom : ℕ → List ℕ → List ℕ → Numbered
+freshPFrom n device image = madeFrom (freshPIn n device image)
 
-unfoldable pub freshPIn : ℕ → List ℕ → List ℕ → Made
-freshPIn n device chip = made (offered P n && eqb (length device) 8) (freshOf (makeOf P n) device (replicate 8 0)) chip
-
--- ---- transactions and power cycles: all that a call leaves
+-- ---- the device: all that a call leaves
 pub record Call : Type 0 where
   pub answer : ℕ
-  pub chip : List ℕ
+  pub image : List ℕ
   pub lent : Lent
   pub output : List ℕ
   pub counts : List ℕ
 
 abbrev pub callAs : ℕ → List ℕ → List ℕ → List ℕ → List ℕ → List ℕ → Call
-callAs v chip memory area output counts = record { answer = v; chip = chip; lent = lends memory area; output = output; counts = counts }
+callAs v image memory area output counts = record { answer = v; image = image; lent = lends memory area; output = output; counts = counts }
 
--- what the paper leaves, in bytes and words
-abbrev pub inBytes : World → List ℕ → Call
-inBytes w counts = record { answer = answerNumber (w .answer); chip = bytesOf (w .device); lent = w .lent; output = w .output; counts = countsOver (w .counts) counts }
+-- a call over an image, in numbers and words
+abbrev pub inWords : Imaged → List ℕ → Call
+inWords k counts = record { answer = answerNumber (k .answer); image = k .image; lent = k .lent; output = k .output; counts = countsOver (k .counts) counts }
 
--- 3 for bytes that are no chip's: nothing changes but the counts, which are 0 (D46)
-abbrev pub across : List ℕ → Lent → List ℕ → List ℕ → World → Call
-across chip l out counts w =
-    cond (isChip chip) (inBytes w counts) (record { answer = answerNumber State; chip = chip; lent = l; output = out; counts = countsOver noCounts counts })
+-- 1 where there are not five words for the counts, but 3 comes first; nothing changes (D47)
+abbrev pub unroomedAnswer : List ℕ → Answer
+unroomedAnswer image = cond (accepted image) Size State
 
--- 1 also where there are not five words for the counts (D47)
-unfoldable pub transactIn : List ℕ → Lent → List ℕ → List ℕ → List ℕ → Call
-transactIn chip l xs out counts =
-    let d = chipOf chip in
-    across chip l out counts (cond (hasCounts counts) (transactOf d l xs out) (refusal d l out Size))
+unfoldable pub unroomedNumber : List ℕ → ℕ
+unroomedNumber image = answerNumber (unroomedAnswer image)
+
+abbrev pub counted : List ℕ → Lent → List ℕ → List ℕ → Imaged → Call
+counted image l out counts k =
+    cond (hasCounts counts) (inWords k counts) (record { answer = unroomedNumber image; image = image; lent = l; output = out; counts = counts })
+
+unfoldable pub transactFrom : List ℕ → Lent → List ℕ → List ℕ → List ℕ → Call
+transactFrom image l xs out counts = counted image l out counts (transactIn image l xs out)
+
+unfoldable pub closeFrom : List ℕ → Lent → List ℕ → Call
+closeFrom image l counts = counted image l [] counts (closeIn image l)
 
 -- no words for counts, which are always 0 (D48)
-unfoldable pub powerIn : List ℕ → Lent → Call
-powerIn chip l = across chip l [] [] (powerOf (chipOf chip) l)
+unfoldable pub powerFrom : List ℕ → Lent → Call
+powerFrom image l = inWords (powerIn image l) []
 
--- what the code's outcome tells, with nothing lent
-abbrev pub outcomeTold : Outcome → List ℕ → Call
-outcomeTold o counts = inBytes (worldOf o [] [] []) counts
+unfoldable pub openFrom : List ℕ → Lent → Call
+openFrom image l = inWords (openIn image l) []
+
+unfoldable pub feedFrom : List ℕ → Lent → List ℕ → List ℕ → Call
+feedFrom image l xs out = inWords (feedIn image l xs out) []
+
+-- a reply in words, with nothing lent but these
+abbrev pub numbered : Reply → List ℕ → Call
+numbered r counts = callAs (answerNumber (r .answer)) [] [] [] [] (countsOver (r .counts) counts)

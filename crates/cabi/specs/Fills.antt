@@ -8,7 +8,7 @@ use Rattle.record.specs.declared.answers.Answer.the-variants.{Size}
 use Rattle.record.specs.Answers.{answerNumber}
 use Rattle.paper.specs.Building.{Order, Told, buildOf}
 use Rattle.paper.specs.Collecting.{collectOf}
-use Rattle.chips.specs.Words.{hasNumber, numberOver}
+use Rattle.words.specs.Words.{hasNumber, numberOver}
 
 pub record Filled : Type 0 where
   pub answer : ℕ

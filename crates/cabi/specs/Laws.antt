@@ -2,46 +2,38 @@
 -- Assumes nothing.
 use mathlib.Core.Path.{_≡_, ap, _∙_}
 use Prim.Native.Nat.{ℕ}
-use mathlib.Core.Bool.{true, false}
 use mathlib.Core.List.{List, []}
 use lib.ListN.{length}
 use borrow.Author.Tests.{eq-eqb, ne-eqb}
 use Rattle.units.specs.declared.Clocks.{Clocks}
 use Rattle.units.specs.declared.Bytes.{Bytes}
 use Rattle.record.specs.Answers.{answerNumber}
-use Rattle.paper.specs.Transaction.{World, transactOf, powerOf}
+use Rattle.paper.specs.Storing.{Lent}
 use Rattle.paper.specs.Building.{Order, Told, buildOf}
 use Rattle.paper.specs.Collecting.{collectOf}
-use Rattle.record.specs.declared.devices.Outcome.{Outcome}
-use Rattle.contract_words.specs.Words.{lends, worldOf}
-use Rattle.chips.specs.Chips.{isChip, chipOf, bytesOf}
-use Rattle.chips.specs.Words.{countsOver, numberOver}
-use Rattle.chips.specs.Laws.{write-back}
-use Rattle.cabi.specs.Calls.{Call, callAs, inBytes, outcomeTold, transactIn, powerIn}
+use Rattle.contract_words.specs.Words.{lends}
+use Rattle.image_calls.specs.declared.Reply.{Reply}
+use Rattle.image_calls.specs.Calls.{Imaged, imagedAs}
+use Rattle.words.specs.Words.{countsOver, numberOver}
+use Rattle.cabi.specs.Calls.{Call, callAs, inWords, counted, unroomedNumber, numbered}
 use Rattle.cabi.specs.Fills.{filledAs, buildIn, gatherIn}
 
 -- ---- the device
-module _ (chip memory area : List ℕ) (y : isChip chip ≡ true) where
+-- a reply, told without words for counts
+pub plain : {v : ℕ} (r : Reply) (image m a z : List ℕ) {k : Imaged} → v ≡ answerNumber (r .answer) → imagedAs r image m a z ≡ k → callAs v image m a z [] ≡ inWords k []
+unfolding countsOver
+plain r image m a z e f = rw e (ap (λ (i : Imaged). inWords i []) f)
+
+module _ (image : List ℕ) (l : Lent) (out counts : List ℕ) (k : Imaged) where
   -- no five words for the counts
-  pub transact-uncounted : (xs out counts : List ℕ) → (length counts ≡ 5 → ⊥) → callAs 1 chip memory area out counts ≡ transactIn chip (lends memory area) xs out counts
-  unfolding transactIn countsOver
-  transact-uncounted xs out counts n = rw (y, ne-eqb (length counts) 5 n, write-back chip y)
+  pub unroomed-told : {v : ℕ} (memory area : List ℕ) → l ≡ lends memory area → v ≡ unroomedNumber image → (length counts ≡ 5 → ⊥) → callAs v image memory area out counts ≡ counted image l out counts k
+  unroomed-told memory area e f n = rw (ne-eqb (length counts) 5 n, e, f)
 
-  -- what the device answers and leaves, told in bytes and words
-  pub transact-told : (o : Outcome) (m a z xs out counts : List ℕ) {r : ℕ} {chip′ counts′ : List ℕ} → length counts ≡ 5 → worldOf o m a z ≡ transactOf (chipOf chip) (lends memory area) xs out
-      → callAs r chip′ [] [] [] counts′ ≡ outcomeTold o counts → callAs r chip′ m a z counts′ ≡ transactIn chip (lends memory area) xs out counts
-  unfolding transactIn
-  transact-told o m a z xs out counts n e t =
-      ap (λ (k : Call). callAs (k .answer) (k .chip) m a z (k .counts)) t ∙ rw (y, eq-eqb (length counts) 5 n) (ap (λ (w : World). inBytes w counts) e)
-
-  pub power-told : (o : Outcome) (m a : List ℕ) → worldOf o m a [] ≡ powerOf (chipOf chip) (lends memory area)
-      → callAs (answerNumber (o .answer)) (bytesOf (o .device)) m a [] [] ≡ powerIn chip (lends memory area)
-  unfolding powerIn countsOver
-  power-told o m a e = rw y (ap (λ (w : World). inBytes w []) e)
-
-pub power-strange : (chip memory area : List ℕ) → isChip chip ≡ false → callAs 3 chip memory area [] [] ≡ powerIn chip (lends memory area)
-unfolding powerIn countsOver
-power-strange chip memory area n = rw n
+  -- five words: what the call leaves, and the counts in them
+  pub counted-told : {v : ℕ} {counts′ : List ℕ} (r : Reply) (image′ m a z : List ℕ) → length counts ≡ 5 → imagedAs r image′ m a z ≡ k
+      → callAs v [] [] [] [] counts′ ≡ numbered r counts → callAs v image′ m a z counts′ ≡ counted image l out counts k
+  counted-told r image′ m a z n e t =
+      ap (λ (c : Call). callAs (c .answer) image′ m a z (c .counts)) t ∙ rw (eq-eqb (length counts) 5 n) (ap (λ (i : Imaged). inWords i counts) e)
 
 -- ---- the host half
 module _ (out number : List ℕ) (n : length number ≡ 1) where

@@ -1,116 +1,128 @@
--- A call that is refused, by 1, 2 or 3, changes nothing of what C lent, but that the five counts are 0. Also where the refusal is the device's own, after the
--- chip was read from its bytes and written again. 13 refuses too, but never comes from C: a chip's bytes have no place for an open transaction.
+-- REFUSED and EXACT ORDER for the calls from C. A call that is refused changes nothing of what C lent, but that five words for counts are 0; words of another number are as they were. First comes 3
+-- for bytes that are no image, then 1 where there are not five words, then the order of the call itself. Document 02, P8 (D47).
 -- Assumes nothing.
 use mathlib.Core.Path.{_≡_, refl, sym, ap, _∙_}
 use Prim.Native.Nat.{ℕ}
-use mathlib.Core.Bool.{Bool, true, false, cond}
-use mathlib.Core.List.{List, []}
-use lib.Dec.{eqb}
-use Rattle.basis.specs.Truth.{untrue}
-use Rattle.basis.specs.Decisions.{leadingTo, by-rows}
+use mathlib.Core.Bool.{Bool, true, false, cond, not}
+use mathlib.Core.List.{List, [], _∷_}
+use Rattle.basis.specs.Decisions.{firstOf}
 use Rattle.counts.specs.declared.Counts.{Counts}
 use Rattle.counts.specs.Counts.{noCounts}
-use Rattle.paper.specs.Storing.{Lent}
-use Rattle.paper.specs.Transaction.{World, refusal, transactChecks, powerChecks, clockedOf, poweredUp, transactOf, powerOf}
 use Rattle.record.specs.declared.answers.Answer.{Answer}
-use Rattle.record.specs.declared.answers.Answer.the-variants.{Done, Size, Sample, State, Short, Unknown, Asleep, Address, Latch, Protected, Reserved, Long, Unarmed, Turn}
-use Rattle.record.specs.Answers.{answerNumber, refusing, refuses}
+use Rattle.record.specs.declared.answers.Answer.the-variants.{Size, State}
+use Rattle.record.specs.declared.devices.Device.{Device}
+use Rattle.record.specs.Answers.{answerNumber, refuses, refusing}
 use Rattle.record.specs.Laws.{refusing-is}
-use Rattle.paper.specs.CallLaws.{Untouched, judge-refuses-none, transact-refused, power-refused-so}
-use Rattle.chips.specs.Chips.{isChip, chipOf, bytesOf}
-use Rattle.chips.specs.Words.{hasCounts, countsOver}
-use Rattle.chips.specs.Laws.{write-back}
-use Rattle.cabi.specs.Calls.{Call, inBytes, across, transactIn, powerIn}
+use Rattle.paper.specs.Storing.{Lent}
+use Rattle.paper.specs.Transaction.{clockedOf, poweredUp, transactChecks, powerChecks, openChecks, feedChecks, closeChecks}
+use Rattle.machine_chunks.specs.Chunks.{openedWorld, fedWorld, closedWorld}
+use Rattle.image.specs.Image.{recordOf}
+use Rattle.image.specs.Back.{Bytes}
+use Rattle.image_check.specs.Accepted.{accepted}
+use Rattle.image_calls.specs.Calls.{Imaged, transactIn, powerIn, openIn, feedIn, closeIn}
+use Rattle.image_calls.specs.Refused.{Unmoved, transact-refused, power-refused, open-refused, feed-refused, close-refused, transact-order, power-order, open-order, feed-order, close-order}
+use Rattle.words.specs.Words.{hasCounts, countsOver}
+use Rattle.cabi.specs.Calls.{Call, inWords, unroomedAnswer, unroomedNumber, counted, transactFrom, powerFrom, openFrom, feedFrom, closeFrom}
 
 -- nothing has changed
-pub record Kept (chip : List ℕ) (l : Lent) (out counts : List ℕ) (k : Call) : Type 0 where
-  pub chip-kept : k .chip ≡ chip
+pub record Kept (image : List ℕ) (l : Lent) (out counts : List ℕ) (k : Call) : Type 0 where
+  pub image-kept : k .image ≡ image
   pub lent-kept : k .lent ≡ l
   pub output-kept : k .output ≡ out
   pub counts-none : k .counts ≡ countsOver noCounts counts
 
-module _ (chip : List ℕ) (l : Lent) (out counts : List ℕ) where
-  -- a world that is untouched when it refuses is so in bytes
-  abbrev Leaves : World → Type 0
-  Leaves w = refuses (w .answer) ≡ true → Untouched (chipOf chip) l out w
+-- ---- for any call
+module _ (image : List ℕ) (l : Lent) (out counts : List ℕ) (k : Imaged) where
+  -- a call over an image that is unmoved when it refuses is so in words
+  abbrev Still : Type 0
+  Still = refuses (k .answer) ≡ true → Unmoved image l out k
 
-  in-bytes : (w : World) → isChip chip ≡ true → Untouched (chipOf chip) l out w → Kept chip l out counts (inBytes w counts)
-  in-bytes w y u =
-      record { chip-kept = ap bytesOf (u .device) ∙ write-back chip y; lent-kept = u .lent; output-kept = u .output; counts-none = ap (λ (c : Counts). countsOver c counts) (u .counts) }
+  in-words : Still → refusing (inWords k counts .answer) ≡ true → Kept image l out counts (inWords k counts)
+  in-words u e =
+      let m = u (sym (refusing-is (k .answer)) ∙ e) in
+      record { image-kept = m .image-kept; lent-kept = m .lent; output-kept = m .output; counts-none = ap (λ (c : Counts). countsOver c counts) (m .counts) }
 
-  kept : (w : World) → Leaves w → refusing (across chip l out counts w .answer) ≡ true → Kept chip l out counts (across chip l out counts w)
-  kept w u = by (isChip chip) refl
+  abbrev unroomed : Call
+  unroomed = record { answer = unroomedNumber image; image = image; lent = l; output = out; counts = counts }
+
+  -- without five words nothing is written
+  with-counts : Still → refusing (counted image l out counts k .answer) ≡ true → Kept image l out counts (counted image l out counts k)
+  unfolding countsOver
+  with-counts u = by (hasCounts counts) refl
     where
-      strange : Call
-      strange = record { answer = 3; chip = chip; lent = l; output = out; counts = countsOver noCounts counts }
+      by : (b : Bool) → hasCounts counts ≡ b → refusing (cond b (inWords k counts) unroomed .answer) ≡ true → Kept image l out counts (cond b (inWords k counts) unroomed)
+      by true y e = in-words u e
+      by false n e = record { image-kept = refl; lent-kept = refl; output-kept = refl; counts-none = rw n }
 
-      by : (b : Bool) → isChip chip ≡ b → refusing (cond b (inBytes w counts) strange .answer) ≡ true → Kept chip l out counts (cond b (inBytes w counts) strange)
-      by true y e = in-bytes w y (u (sym (refusing-is (w .answer)) ∙ e))
-      by false n e = record { chip-kept = refl; lent-kept = refl; output-kept = refl; counts-none = refl }
-
-  -- no room for the counts refuses too
-  uncounted : (c : Bool) (w : World) → Leaves w → Leaves (cond c w (refusal (chipOf chip) l out Size))
-  uncounted true w u e = u e
-  uncounted false w u e = record { counts = refl; device = refl; lent = refl; output = refl }
-
-  pub transact-kept : (xs : List ℕ) → refusing (transactIn chip l xs out counts .answer) ≡ true → Kept chip l out counts (transactIn chip l xs out counts)
-  unfolding transactIn
-  transact-kept xs = kept _ (uncounted (hasCounts counts) _ (transact-refused (chipOf chip) l xs out))
-
-pub power-kept : (chip : List ℕ) (l : Lent) → refusing (powerIn chip l .answer) ≡ true → Kept chip l [] [] (powerIn chip l)
-unfolding powerIn
-power-kept chip l = kept chip l [] [] _ (power-refused-so (chipOf chip) l)
-
--- ---- IN TURN: no call from C is answered 13
-abbrev pub outOfTurn : ℕ → Bool
-outOfTurn v = eqb v (answerNumber Turn)
-
-timely : (v : Answer) → refuses v ≡ false → outOfTurn (answerNumber v) ≡ false
-timely Done e = refl
-timely Size e = refl
-timely Sample e = refl
-timely State e = refl
-timely Short e = refl
-timely Unknown e = refl
-timely Asleep e = refl
-timely Address e = refl
-timely Latch e = refl
-timely Protected e = refl
-timely Reserved e = refl
-timely Long e = refl
-timely Unarmed e = refl
-timely Turn e = untrue (sym e)
-
-module _ (chip : List ℕ) (l : Lent) where
-  abbrev InTurn : World → Type 0
-  InTurn w = outOfTurn (answerNumber (w .answer)) ≡ false
-
-  told : (out counts : List ℕ) (w : World) → InTurn w → outOfTurn (across chip l out counts w .answer) ≡ false
-  told out counts w t = by (isChip chip)
+  -- the order, where that of the call over the image is known
+  counted-order : (v : Answer) (cs : List (Bool × Answer)) → k .answer ≡ firstOf v ((not (accepted image), State) ∷ cs)
+      → counted image l out counts k .answer ≡ answerNumber (firstOf v ((not (accepted image), State) ∷ (not (hasCounts counts), Size) ∷ cs))
+  unfolding unroomedNumber
+  counted-order v cs e = by (hasCounts counts)
     where
-      by : (b : Bool) → outOfTurn (cond b (inBytes w counts) (record { answer = 3; chip = chip; lent = l; output = out; counts = countsOver noCounts counts }) .answer) ≡ false
-      by true = t
-      by false = refl
+      sooner : (a : Bool) → cond a Size State ≡ firstOf v ((not a, State) ∷ (true, Size) ∷ cs)
+      sooner true = refl
+      sooner false = refl
 
-  with-counts : (out : List ℕ) (c : Bool) (w : World) → InTurn w → InTurn (cond c w (refusal (chipOf chip) l out Size))
-  with-counts out true w t = t
-  with-counts out false w t = refl
+      later : (a : Bool) → firstOf v ((not a, State) ∷ cs) ≡ firstOf v ((not a, State) ∷ (false, Size) ∷ cs)
+      later true = refl
+      later false = refl
 
-  clocked-in-turn : (xs out : List ℕ) → InTurn (transactOf (chipOf chip) l xs out)
-  unfolding transactOf clockedOf chipOf
-  clocked-in-turn xs out =
-      by-rows (clockedOf (chipOf chip) l xs out) InTurn (leadingTo (refusal (chipOf chip) l out) (transactChecks (chipOf chip) l xs out))
-      (λ e. refl, (λ e. refl, (λ e. refl, (λ e. untrue e, tt))))
-      (λ c. timely (clockedOf (chipOf chip) l xs out .answer) (judge-refuses-none (chipOf chip) _))
+      by : (b : Bool) → cond b (inWords k counts) unroomed .answer ≡ answerNumber (firstOf v ((not (accepted image), State) ∷ (not b, Size) ∷ cs))
+      by true = ap answerNumber (e ∙ later (accepted image))
+      by false = ap answerNumber (sooner (accepted image))
 
-  pub transact-in-turn : (xs out counts : List ℕ) → outOfTurn (transactIn chip l xs out counts .answer) ≡ false
-  unfolding transactIn
-  transact-in-turn xs out counts =
-      let w = transactOf (chipOf chip) l xs out in
-      told out counts (cond (hasCounts counts) w (refusal (chipOf chip) l out Size)) (with-counts out (hasCounts counts) w (clocked-in-turn xs out))
+-- ---- in the words of each call
+module _ (image : List ℕ) (b : Bytes image) (l : Lent) where
+  -- REFUSED
+  pub transact-kept : (xs out counts : List ℕ) → refusing (transactFrom image l xs out counts .answer) ≡ true → Kept image l out counts (transactFrom image l xs out counts)
+  unfolding transactFrom
+  transact-kept xs out counts = with-counts image l out counts (transactIn image l xs out) (transact-refused image l b xs out)
 
-  pub power-in-turn : outOfTurn (powerIn chip l .answer) ≡ false
-  unfolding powerIn powerOf chipOf
-  power-in-turn =
-      told [] [] (powerOf (chipOf chip) l)
-      (by-rows (poweredUp (chipOf chip) l) InTurn (leadingTo (refusal (chipOf chip) l []) (powerChecks (chipOf chip) l)) (λ e. refl, (λ e. refl, (λ e. untrue e, tt))) (λ c. refl))
+  pub close-kept : (counts : List ℕ) → refusing (closeFrom image l counts .answer) ≡ true → Kept image l [] counts (closeFrom image l counts)
+  unfolding closeFrom
+  close-kept counts = with-counts image l [] counts (closeIn image l) (close-refused image l b)
+
+  pub power-kept : refusing (powerFrom image l .answer) ≡ true → Kept image l [] [] (powerFrom image l)
+  unfolding powerFrom
+  power-kept = in-words image l [] [] (powerIn image l) (power-refused image l b)
+
+  pub open-kept : refusing (openFrom image l .answer) ≡ true → Kept image l [] [] (openFrom image l)
+  unfolding openFrom
+  open-kept = in-words image l [] [] (openIn image l) (open-refused image l b)
+
+  pub feed-kept : (xs out : List ℕ) → refusing (feedFrom image l xs out .answer) ≡ true → Kept image l out [] (feedFrom image l xs out)
+  unfolding feedFrom
+  feed-kept xs out = in-words image l out [] (feedIn image l xs out) (feed-refused image l b xs out)
+
+module _ (image : List ℕ) (l : Lent) where
+  abbrev d : Device
+  d = recordOf image
+
+  -- 3 comes first
+  abbrev imageCheck : Bool × Answer
+  imageCheck = (not (accepted image), State)
+
+  -- EXACT ORDER
+  pub transact-ordered : (xs out counts : List ℕ)
+      → transactFrom image l xs out counts .answer ≡ answerNumber (firstOf (clockedOf d l xs out .answer) (imageCheck ∷ (not (hasCounts counts), Size) ∷ transactChecks d l xs out))
+  unfolding transactFrom
+  transact-ordered xs out counts =
+      counted-order image l out counts (transactIn image l xs out) (clockedOf d l xs out .answer) (transactChecks d l xs out) (transact-order image l xs out)
+
+  pub close-ordered : (counts : List ℕ)
+      → closeFrom image l counts .answer ≡ answerNumber (firstOf (closedWorld d l .answer) (imageCheck ∷ (not (hasCounts counts), Size) ∷ closeChecks d l))
+  unfolding closeFrom
+  close-ordered counts = counted-order image l [] counts (closeIn image l) (closedWorld d l .answer) (closeChecks d l) (close-order image l)
+
+  pub power-ordered : powerFrom image l .answer ≡ answerNumber (firstOf (poweredUp d l .answer) (imageCheck ∷ powerChecks d l))
+  unfolding powerFrom
+  power-ordered = ap answerNumber (power-order image l)
+
+  pub open-ordered : openFrom image l .answer ≡ answerNumber (firstOf (openedWorld d l .answer) (imageCheck ∷ openChecks d l))
+  unfolding openFrom
+  open-ordered = ap answerNumber (open-order image l)
+
+  pub feed-ordered : (xs out : List ℕ) → feedFrom image l xs out .answer ≡ answerNumber (firstOf (fedWorld d l xs out .answer) (imageCheck ∷ feedChecks d l xs out))
+  unfolding feedFrom
+  feed-ordered xs out = ap answerNumber (feed-order image l xs out)

@@ -2,114 +2,65 @@
 // behind the pointer is then read or written but the counts, which are 0. `include/tondravik.h` says what C must ensure.
 ghost use mathlib.Core.Path.{_≡_};
 ghost use mathlib.Core.List.{[]};
-ghost use lib.ListN.{length};
 ghost use Rattle.units.specs.Units.{bytes};
-ghost use Rattle.parts.specs.declared.Family.the-variants.{Mram};
-ghost use Rattle.parts.specs.Parts.{familyOf};
 ghost use Rattle.contract_words.specs.Words.{lends};
-ghost use Rattle.chips.specs.Chips.{chipSize};
-ghost use Rattle.cabi.specs.Calls.{madeAs, freshMramIn, freshMIn, freshM32In, freshPIn, callAs, outcomeTold, transactIn, powerIn};
+ghost use Rattle.cabi.specs.Calls.{numberedAs, numbered, callAs, unroomedNumber, freshMFrom, freshM32From, freshPFrom, transactFrom, powerFrom, openFrom, feedFrom, closeFrom};
 ghost use Rattle.cabi.specs.Fills.{filledAs, orderIn, buildIn, gatherIn};
-use chips::CHIP;
-use chips::COUNTS;
-use chips::NUMBER;
-use chips::chip_of;
-use chips::eight_at;
-use chips::is_chip;
-use chips::put_chip;
-use chips::put_counts;
-use chips::put_number;
-use counts::Counts;
 use host_order::Order;
-use parts::Part;
-use parts::PartP;
-use parts::is_offered;
-use record::Device;
-use record::Make;
-use record::Outcome;
+use image_calls::Reply;
+use image_check::is_accepted;
 use record::answer_number;
 use units::Bytes;
+use words::COUNTS;
+use words::NUMBER;
+use words::put_counts;
+use words::put_number;
 
-// The answers that a call gives before it comes to the device.
-const DONE: u8 = 0;
-
+// The answers that a call gives for its words.
 const SIZE: u8 = 1;
 
 const STATE: u8 = 3;
 
-// A fresh chip of a part of the MRAM, with its four bytes of device identity and its unique number.
-fn fresh_mram(part: Part, n: u8, device: &[u8], unique: &[u8], chip: &mut [u8]) -> u8
-    requires { ⌜ familyOf part ≡ Mram ⌝ }
-    ensures { λ r. ⌜ madeAs r (now (chip .exit)) ≡ freshMramIn part n (now (device .entry)) (now (unique .entry)) (now (chip .entry)) ⌝ }
-{
-    if chip.len() != CHIP {
-        return STATE;
-    }
-    if !is_offered(part, n) {
-        return SIZE;
-    }
-    if device.len() != 4 {
-        return SIZE;
-    }
-    if unique.len() != 8 {
-        return SIZE;
-    }
-    let eight = [device[0], device[1], device[2], device[3], 0, 0, 0, 0];
-    let make = Make {
-        part: part.number(),
-        n,
-    };
-    put_chip(Device::fresh(make, eight, eight_at(unique, 0)), chip);
-    DONE
-}
-
 // A fresh chip of part M.
 #[no_mangle]
-pub extern "C" fn tondravik_fresh_m(n: u8, device: &[u8], unique: &[u8], chip: &mut [u8]) -> u8
-    ensures { λ r. ⌜ madeAs r (now (chip .exit)) ≡ freshMIn n (now (device .entry)) (now (unique .entry)) (now (chip .entry)) ⌝ }
+pub extern "C" fn tondravik_fresh_m(n: u8, device: &[u8], unique: &[u8], image: &mut [u8]) -> u8
+    ensures { λ r. ⌜ numberedAs r (now (image .exit)) ≡ freshMFrom n (now (device .entry)) (now (unique .entry)) (now (image .entry)) ⌝ }
 {
-    fresh_mram(Part::M, n, device, unique, chip)
+    answer_number(image_calls::fresh_m(n, device, unique, image))
 }
 
 // A fresh chip of part M32.
 #[no_mangle]
-pub extern "C" fn tondravik_fresh_m32(n: u8, device: &[u8], unique: &[u8], chip: &mut [u8]) -> u8
-    ensures { λ r. ⌜ madeAs r (now (chip .exit)) ≡ freshM32In n (now (device .entry)) (now (unique .entry)) (now (chip .entry)) ⌝ }
+pub extern "C" fn tondravik_fresh_m32(n: u8, device: &[u8], unique: &[u8], image: &mut [u8]) -> u8
+    ensures { λ r. ⌜ numberedAs r (now (image .exit)) ≡ freshM32From n (now (device .entry)) (now (unique .entry)) (now (image .entry)) ⌝ }
 {
-    fresh_mram(Part::M32, n, device, unique, chip)
+    answer_number(image_calls::fresh_m32(n, device, unique, image))
 }
 
-// A fresh chip of part P, with its eight bytes of device identity.
+// A fresh chip of part P.
 #[no_mangle]
-pub extern "C" fn tondravik_fresh_p(n: u8, device: &[u8], chip: &mut [u8]) -> u8
-    ensures { λ r. ⌜ madeAs r (now (chip .exit)) ≡ freshPIn n (now (device .entry)) (now (chip .entry)) ⌝ }
+pub extern "C" fn tondravik_fresh_p(n: u8, device: &[u8], image: &mut [u8]) -> u8
+    ensures { λ r. ⌜ numberedAs r (now (image .exit)) ≡ freshPFrom n (now (device .entry)) (now (image .entry)) ⌝ }
 {
-    if chip.len() != CHIP {
-        return STATE;
-    }
-    if !is_offered(Part::P, n) {
-        return SIZE;
-    }
-    if device.len() != 8 {
-        return SIZE;
-    }
-    let make = Make {
-        part: PartP::NUMBER,
-        n,
-    };
-    put_chip(Device::fresh(make, eight_at(device, 0), [0u8; 8]), chip);
-    DONE
+    answer_number(image_calls::fresh_p(n, device, image))
 }
 
-// What the device answers, in bytes and words.
-fn tell(o: Outcome, chip: &mut [u8], counts: &mut [usize]) -> u8
-    requires { ⌜ length (now chip) ≡ chipSize ⌝ }
-    ensures { λ r. ⌜ callAs r (now (chip .exit)) [] [] [] (now (counts .exit)) ≡ outcomeTold o (now (counts .entry)) ⌝ }
+// The answer of a call that has not the words for its counts: 3 comes first here too.
+fn unroomed(image: &[u8]) -> u8
+    ensures { λ r. ⌜ r ≡ unroomedNumber (now (image .entry)) ⌝ }
 {
-    let d = o.device;
-    let c = o.counts;
-    let v = o.answer;
-    put_chip(d, chip);
+    if is_accepted(image) {
+        return SIZE;
+    }
+    STATE
+}
+
+// A reply in words: the counts, where they have room, and the answer.
+fn tell(r: Reply, counts: &mut [usize]) -> u8
+    ensures { λ v. ⌜ callAs v [] [] [] [] (now (counts .exit)) ≡ numbered r (now (counts .entry)) ⌝ }
+{
+    let c = r.counts;
+    let v = r.answer;
     put_counts(c, counts);
     answer_number(v)
 }
@@ -117,39 +68,73 @@ fn tell(o: Outcome, chip: &mut [u8], counts: &mut [usize]) -> u8
 // A transaction.
 #[no_mangle]
 pub extern "C" fn tondravik_transact(
-    chip: &mut [u8],
+    image: &mut [u8],
     memory: &mut [u8],
     area: &mut [u8],
     samples: &[u8],
     output: &mut [u8],
     counts: &mut [usize],
 ) -> u8
-    ensures { λ r. ⌜ callAs r (now (chip .exit)) (now (memory .exit)) (now (area .exit)) (now (output .exit)) (now (counts .exit)) ≡ transactIn (now (chip .entry)) (lends (now (memory .entry)) (now (area .entry))) (now (samples .entry)) (now (output .entry)) (now (counts .entry)) ⌝ }
+    ensures { λ r. ⌜ callAs r (now (image .exit)) (now (memory .exit)) (now (area .exit)) (now (output .exit)) (now (counts .exit)) ≡ transactFrom (now (image .entry)) (lends (now (memory .entry)) (now (area .entry))) (now (samples .entry)) (now (output .entry)) (now (counts .entry)) ⌝ }
 {
-    if !is_chip(chip) {
-        put_counts(Counts::none(), counts);
-        return STATE;
-    }
     if counts.len() != COUNTS {
-        return SIZE;
+        return unroomed(image);
     }
-    let o = device::transact(chip_of(chip), memory, area, samples, output);
-    tell(o, chip, counts)
+    let r = image_calls::transact(image, memory, area, samples, output);
+    tell(r, counts)
 }
 
 // A power cycle. No clock is counted, and no words are lent for counts.
 #[no_mangle]
-pub extern "C" fn tondravik_power_cycle(chip: &mut [u8], memory: &mut [u8], area: &[u8]) -> u8
-    ensures { λ r. ⌜ callAs r (now (chip .exit)) (now (memory .exit)) (now (area .entry)) [] [] ≡ powerIn (now (chip .entry)) (lends (now (memory .entry)) (now (area .entry))) ⌝ }
+pub extern "C" fn tondravik_power_cycle(image: &mut [u8], memory: &mut [u8], area: &[u8]) -> u8
+    ensures { λ r. ⌜ callAs r (now (image .exit)) (now (memory .exit)) (now (area .entry)) [] [] ≡ powerFrom (now (image .entry)) (lends (now (memory .entry)) (now (area .entry))) ⌝ }
 {
-    if !is_chip(chip) {
-        return STATE;
-    }
-    let o = device::power_cycle(chip_of(chip), memory, area);
-    let d = o.device;
-    let v = o.answer;
-    put_chip(d, chip);
+    let r = image_calls::power_cycle(image, memory, area);
+    let v = r.answer;
     answer_number(v)
+}
+
+// Select goes low. No clock is counted.
+#[no_mangle]
+pub extern "C" fn tondravik_open(image: &mut [u8], memory: &[u8], area: &[u8]) -> u8
+    ensures { λ r. ⌜ callAs r (now (image .exit)) (now (memory .entry)) (now (area .entry)) [] [] ≡ openFrom (now (image .entry)) (lends (now (memory .entry)) (now (area .entry))) ⌝ }
+{
+    let r = image_calls::open(image, memory, area);
+    let v = r.answer;
+    answer_number(v)
+}
+
+// The next clocks of the open transaction. They are counted when it is closed.
+#[no_mangle]
+pub extern "C" fn tondravik_feed(
+    image: &mut [u8],
+    memory: &mut [u8],
+    area: &mut [u8],
+    samples: &[u8],
+    output: &mut [u8],
+) -> u8
+    ensures { λ r. ⌜ callAs r (now (image .exit)) (now (memory .exit)) (now (area .exit)) (now (output .exit)) [] ≡ feedFrom (now (image .entry)) (lends (now (memory .entry)) (now (area .entry))) (now (samples .entry)) (now (output .entry)) ⌝ }
+{
+    let r = image_calls::feed(image, memory, area, samples, output);
+    let v = r.answer;
+    answer_number(v)
+}
+
+// Select goes high: the answer and the counts of all clocks since select went low.
+#[no_mangle]
+pub extern "C" fn tondravik_close(
+    image: &mut [u8],
+    memory: &[u8],
+    area: &[u8],
+    counts: &mut [usize],
+) -> u8
+    ensures { λ r. ⌜ callAs r (now (image .exit)) (now (memory .entry)) (now (area .entry)) [] (now (counts .exit)) ≡ closeFrom (now (image .entry)) (lends (now (memory .entry)) (now (area .entry))) (now (counts .entry)) ⌝ }
+{
+    if counts.len() != COUNTS {
+        return unroomed(image);
+    }
+    let r = image_calls::close(image, memory, area);
+    tell(r, counts)
 }
 
 // The samples of a command, and how many clocks they are.

@@ -13,10 +13,10 @@ on-stores-spec =
     -- cut-requires, same-length, returns, cut-requires-2, same-length-2, returns-2, slice-relend-prefix-on-wires
     (λ c κs. tt) (λ c. search needs) (λ c. tt) (λ c κs. tt) (λ c. search needs) (λ c. tt) (λ c. search needs)
     -- slice-aggregate-on-wires
-    (λ c. sym (length-take-le _ _ (c .before .before .if1 .left)))
+    (λ c. sym (length-take-le _ _ (c .before .before .before .if1 .left)))
     -- slice-relend-prefix-on-wires-2
     (λ c. search needs)
     -- slice-aggregate-on-wires-2
-    (λ c. sym (length-take-le _ _ (c .before .before .if2 .left)))
-    -- on-wires-requires, same-length-3, same-length-4, same-length-5, same-length-6, same-length-7, returns-3
-    (λ c κs. tt) (λ c. search needs) (λ c. search needs) (λ c. search needs) (λ c. search needs) (λ c. search needs) (λ c. tt))
+    (λ c. sym (length-take-le _ _ (c .before .before .before .if2 .left)))
+    -- on-wires-requires, same-length-3, same-length-4, same-length-5, same-length-6, same-length-7, same-length-8, returns-3
+    (λ c κs. tt) (λ c. search needs) (λ c. search needs) (λ c. search needs) (λ c. search needs) (λ c. search needs) (λ c. search needs) (λ c. tt))

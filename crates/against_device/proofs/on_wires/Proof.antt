@@ -13,10 +13,10 @@ on-wires-spec =
     -- cut-requires, same-length, returns, cut-requires-2, same-length-2, returns-2, slice-relend-prefix-run
     (λ c κs. tt) (λ c. search needs) (λ c. tt) (λ c κs. tt) (λ c. search needs) (λ c. tt) (λ c. search needs)
     -- slice-aggregate-run
-    (λ c. sym (length-take-le _ _ (c .before .before .before .before .if1 .left)))
+    (λ c. sym (length-take-le _ _ (c .before .before .before .before .before .if1 .left)))
     -- slice-relend-prefix-run-2
     (λ c. search needs)
     -- slice-aggregate-run-2
-    (λ c. sym (length-take-le _ _ (c .before .before .before .before .if2 .left)))
-    -- run-requires, same-length-3, same-length-4, same-length-5, same-length-6, same-length-7, returns-3
-    (λ c κs. tt) (λ c. search needs) (λ c. search needs) (λ c. search needs) (λ c. search needs) (λ c. search needs) (λ c. tt))
+    (λ c. sym (length-take-le _ _ (c .before .before .before .before .before .if2 .left)))
+    -- run-requires, same-length-3, same-length-4, same-length-5, same-length-6, same-length-7, same-length-8, returns-3
+    (λ c κs. tt) (λ c. search needs) (λ c. search needs) (λ c. search needs) (λ c. search needs) (λ c. search needs) (λ c. search needs) (λ c. tt))

@@ -1,4 +1,4 @@
--- `against_device::run` is safe: memory and samples keep their lengths.
+-- `against_device::run` is safe: the image, memory and samples keep their lengths.
 -- Assumes nothing.
 use borrow.Author.Needs.{needs}
 use Rattle.against_device.proofs.run.Statement.{statement}
@@ -10,11 +10,9 @@ run-spec =
     (tie.spec
     -- is-taken-requires, ended-requires, same-length, same-length-2, returns, called-requires, put-line-requires, going-requires, left-by-requires
     (λ c κs. tt) (λ c κs. tt) (λ c. search needs) (λ c. search needs) (λ c. tt) (λ c κs. tt) (λ c κs. tt) (λ c κs. tt) (λ c κs. tt)
-    -- same-length-3
-    (λ c. c .before .before .before .before .before .before .before .before .before .before .before .before .before .before .before .before .called .kept .1 .1 .0)
-    -- same-length-4
-    (λ c. search needs)
-    -- same-length-5
-    (λ c. c .before .before .before .before .before .before .before .before .before .before .before .before .before .before .before .before .before .before .before .before .before .before .before .before .before .before .is-taken .kept .0)
-    -- same-length-6, same-length-7, returns-2
+    -- same-length-3, same-length-4, same-length-5
+    (λ c. search needs) (λ c. search needs) (λ c. search needs)
+    -- same-length-6
+    (λ c. c .before .before .before .before .before .before .before .before .before .before .before .before .before .before .before .before .before .before .before .before .before .before .before .before .before .before .before .before .before .before .is-taken .kept .0)
+    -- same-length-7, same-length-8, returns-2
     (λ c. search needs) (λ c. search needs) (λ c. tt))

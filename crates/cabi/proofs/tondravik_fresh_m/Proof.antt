@@ -1,17 +1,18 @@
--- `cabi::tondravik_fresh_m` meets its contract: it is the family's call, for part M.
+-- `cabi::tondravik_fresh_m` meets its contract: the fresh chip of part M, and its answer as a number.
 -- Assumes nothing.
-use mathlib.Core.Path.{refl}
+use mathlib.Core.Path.{ap, _∙_}
 use borrow.Author.Needs.{needs}
+use Rattle.image_calls.specs.Fresh.{Made}
+use Rattle.cabi.specs.Calls.{madeFrom, freshMFrom}
 use Rattle.cabi.proofs.tondravik_fresh_m.Statement.{statement}
 use Rattle.cabi.proofs.tondravik_fresh_m.Tie as tie
 
 pub tondravik-fresh-m-spec : {M : Type 1} → statement M
+unfolding freshMFrom
 tondravik-fresh-m-spec =
     tie.close
     (tie.spec
-    -- fresh-mram-requires
-    (λ c κs. refl)
-    -- same-length
-    (λ c. search needs)
+    -- fresh-m-requires, answer-number-requires, same-length
+    (λ c κs. tt) (λ c κs. tt) (λ c. search needs)
     -- returns
-    (λ c. c .before .before .fresh-mram .ensures))
+    (λ c. rw (c .answer-number .ensures) (ap madeFrom (c .before .before .before .fresh-m .ensures))))

@@ -1,34 +1,24 @@
--- `cabi::tondravik_transact` meets its contract: bytes that are no chip's, no words for the counts, or what the device leaves.
+-- `cabi::tondravik_transact` meets its contract: no words for the counts, or a transaction over the image.
 -- Assumes nothing.
+use mathlib.Core.Path.{refl}
 use borrow.Author.Needs.{needs}
-use Rattle.cabi.specs.Laws.{transact-uncounted, transact-told}
-use Rattle.chips.specs.Laws.{chip-long}
-use Rattle.cabi.specs.Calls.{transactIn}
-use borrow.Author.Tests.{not-true, not-false}
-use mathlib.Core.Path.{sym, _∙_}
+use Rattle.contract_words.specs.Words.{lends}
+use Rattle.image_calls.specs.Calls.{transactIn}
+use Rattle.cabi.specs.Calls.{transactFrom}
+use Rattle.cabi.specs.Laws.{unroomed-told, counted-told}
 use Rattle.cabi.proofs.tondravik_transact.Statement.{statement}
 use Rattle.cabi.proofs.tondravik_transact.Tie as tie
 
 pub tondravik-transact-spec : {M : Type 1} → statement M
-unfolding transactIn
+unfolding transactFrom
 tondravik-transact-spec =
     tie.close
     (tie.spec
-    -- is-chip-requires, none-requires, put-counts-requires, same-length, same-length-2
-    (λ c κs. tt) (λ c κs. tt) (λ c κs. tt) (λ c. search needs) (λ c. search needs)
+    -- unroomed-requires, same-length
+    (λ c κs. tt) (λ c. search needs)
     -- returns
-    (λ c. rw (← c .before .before .before .before .before .before .is-chip .ensures, not-true (c .before .before .before .before .before .before .is-chip .result) (c .before .before .before .before .before .if1 .taken), c .before .before .put-counts .ensures, c .before .before .before .before .none .ensures))
-    -- same-length-3
-    (λ c. search needs)
+    (λ c. unroomed-told (c .before .before .before .before .before .before .before .before .before .args .image .now) _ (c .before .before .before .before .before .before .before .before .before .args .output .now) (c .before .before .before .before .before .before .before .before .before .args .counts .now) (transactIn (c .before .before .before .before .before .before .before .before .before .args .image .now) (lends (c .before .before .before .before .before .before .before .before .before .args .memory .now) (c .before .before .before .before .before .before .before .before .before .args .area .now)) (c .before .before .before .before .before .before .before .before .before .args .samples .now) (c .before .before .before .before .before .before .before .before .before .args .output .now)) (c .before .before .before .before .before .before .before .before .before .args .memory .now) (c .before .before .before .before .before .before .before .before .before .args .area .now) refl (c .unroomed .ensures) (c .before .before .if1 .taken))
+    -- transact-requires, tell-requires, same-length-2, same-length-3, same-length-4, same-length-5, same-length-6
+    (λ c κs. tt) (λ c κs. tt) (λ c. search needs) (λ c. search needs) (λ c. search needs) (λ c. search needs) (λ c. search needs)
     -- returns-2
-    (λ c. transact-uncounted _ _ _ (sym (c .before .before .is-chip .ensures) ∙ not-false (c .before .before .is-chip .result) (c .before .if1 .left)) _ _ _ (c .if2 .taken))
-    -- chip-of-requires
-    (λ c κs. chip-long _ (sym (c .before .before .before .is-chip .ensures) ∙ not-false (c .before .before .before .is-chip .result) (c .before .before .if1 .left)))
-    -- transact-requires
-    (λ c κs. tt)
-    -- tell-requires
-    (λ c κs. chip-long _ (sym (c .before .before .before .before .before .before .before .before .before .before .before .before .before .before .before .before .is-chip .ensures) ∙ not-false (c .before .before .before .before .before .before .before .before .before .before .before .before .before .before .before .before .is-chip .result) (c .before .before .before .before .before .before .before .before .before .before .before .before .before .before .before .if1 .left)))
-    -- same-length-4, same-length-5, same-length-6, same-length-7, same-length-8
-    (λ c. search needs) (λ c. search needs) (λ c. search needs) (λ c. search needs) (λ c. search needs)
-    -- returns-3
-    (λ c. transact-told _ _ _ (sym (c .before .before .before .before .before .before .before .before .before .before .before .before .before .before .before .before .before .before .before .before .before .is-chip .ensures) ∙ not-false (c .before .before .before .before .before .before .before .before .before .before .before .before .before .before .before .before .before .before .before .before .before .is-chip .result) (c .before .before .before .before .before .before .before .before .before .before .before .before .before .before .before .before .before .before .before .before .if1 .left)) _ _ _ _ _ _ _ (c .before .before .before .before .before .before .before .before .before .before .before .before .before .before .before .before .before .before .before .if2 .left) (rw (c .before .before .before .before .before .before .before .before .before .before .before .before .before .before .before .before .before .chip-of .ensures) at (c .before .before .before .before .before .before .before .before .before .before .before .before .before .transact .ensures)) (c .before .before .before .before .tell .ensures)))
+    (λ c. counted-told (c .before .before .before .before .before .before .before .before .before .before .before .before .before .before .before .before .before .before .before .before .before .before .before .before .args .image .now) _ (c .before .before .before .before .before .before .before .before .before .before .before .before .before .before .before .before .before .before .before .before .before .before .before .before .args .output .now) (c .before .before .before .before .before .before .before .before .before .before .before .before .before .before .before .before .before .before .before .before .before .before .before .before .args .counts .now) _ _ _ _ _ _ (c .before .before .before .before .before .before .before .before .before .before .before .before .before .before .before .before .before .if1 .left) (c .before .before .before .before .before .before .before .before .before .before .before .before .transact .ensures) (c .before .before .tell .ensures)))
