@@ -1,6 +1,6 @@
 /* A host in C. A fresh PSRAM goes to four wires and is written there; then it is read in chunks, as a probe delivers
- * them, with the image copied away and taken up again between two of them, and what it drove is printed. A fresh MRAM of
- * 32 Mbit, whose area is lent too, is written past the end of that area. */
+ * them, with the image copied away and taken up again between two of them, and what it drove is printed. A fresh
+ * MRAM of 32 Mbit, whose area is lent too, is written past the end of that area. */
 #include "tondravik.h"
 
 #include <stdio.h>

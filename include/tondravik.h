@@ -35,10 +35,12 @@ extern "C" {
 #endif
 
 /* The answers. Of the device, 1, 2, 3 and 13 refuse a call: nothing that was lent has changed, but that the five
- * counts, where there are five words for them, are 0. 4 to 12 decline a transaction: memory and area are as they were,
- * the output has one 00h for each clock, and the chip is no longer armed (with 9 its latch also moves as its write
- * mode says). 13 is a call out of turn: a transaction is open, or for feed and close none is. Of the host half, every
- * answer but 0 refuses: the buffer is as it was, and the number, where there is one word for it, is 0. */
+ * counts, where there are five words for them, are 0. 4 to 12 decline a transaction: memory and area are as they
+ * were, the output has one 00h for each clock, and the chip is no longer armed (with 9 its latch also moves as its
+ * write mode says). In chunks it is the close that answers so: memory and area are then as they were at the open,
+ * and each chunk's output is 00h. 13 is a call out of turn: a transaction is open, or for feed and close none is. Of
+ * the host half, every answer but 0 refuses: the buffer is as it was, and the number, where there is one word for
+ * it, is 0. */
 enum {
     TONDRAVIK_DONE = 0,
     TONDRAVIK_SIZE = 1,
@@ -59,10 +61,11 @@ enum {
 /* The parts. */
 enum { TONDRAVIK_PART_M = 1, TONDRAVIK_PART_P = 2, TONDRAVIK_PART_M32 = 3 };
 
-/* A chip is an image of TONDRAVIK_IMAGE bytes: all that it is, an open transaction included, but for its memory and its
- * area. docs/IMAGE.md says what stands at each offset. Numbers of four bytes have the lowest byte first, a flag is 0 or
- * 1, and bytes that have no name here are 0. C may look at an image and change it: one that no chip has is answered 3
- * by the next call, before all else. The lines of this enum are those that `image_table` prints. */
+/* A chip is an image of TONDRAVIK_IMAGE bytes: all that it is, an open transaction included, but for its memory, which
+ * has 2^n bytes, and its area. docs/IMAGE.md says what stands at each offset. Identities and the value are eight bytes,
+ * byte 0 first; clocks, address and number are four, the lowest first; every other field is one. A flag is 0 or 1, and
+ * bytes that belong to no field are 0. C may look at an image and change it: one that no chip has is answered 3 by the
+ * next call, before all else. The lines of this enum are those that `image_table` prints. */
 enum {
     TONDRAVIK_AT_PART = 0,
     TONDRAVIK_AT_N = 1,
@@ -123,7 +126,9 @@ uint8_t tondravik_fresh_p(uint8_t n, const uint8_t *device, size_t device_length
 /* THE CALLS OVER AN IMAGE. Each does what it does over the record that the image stands for, and leaves the image of
  * the next record, which the next call accepts. Before all others, 3: the image is not TONDRAVIK_IMAGE bytes, or no
  * valid record has it, also one with a part or an n that there is not. Then, of the two that have words for counts, 1:
- * there are not TONDRAVIK_COUNTS words, and they are as they were. Then the answers in the order of docs/MODEL.md.
+ * there are not TONDRAVIK_COUNTS words, and they are as they were. Then the answers in the order of docs/MODEL.md, of
+ * which the first is 1 again: `memory` has not 2^n bytes, `area` not the part's number (TONDRAVIK_AREA_..), `output`
+ * not a byte for each sample, or the samples are too many.
  *
  * A transaction: all clocks between select low and select high. Each sample is 0 to 15, bit i the level on wire i.
  * Each clock gives one byte of output: low four bits levels, high four bits which wires the device drives, and 00h

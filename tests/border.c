@@ -1,7 +1,7 @@
-/* Bad input at the border, through the C interface: images of other lengths, words of other numbers, nothing at all; and
- * every bit of valid images flipped in turn. Each flip is another valid image or is answered 3 by all five calls, with
- * nothing changed. What is printed is compared with tests/border.stdout; a call that writes where it must not, or two calls
- * that do not agree, end the run. */
+/* Bad input at the border, through the C interface: images of other lengths, words of other numbers, nothing at all;
+ * and every bit of valid images flipped in turn. Each flip is another valid image or is answered 3 by all five
+ * calls, with nothing changed. What is printed is compared with tests/border.stdout; a call that writes where it
+ * must not, or two calls that do not agree, end the run. */
 #include "tondravik.h"
 
 #include <stdio.h>
@@ -76,7 +76,18 @@ static void all_refuse(const char *what, const struct lent *x, size_t image_leng
     printf("%s: answered %u five times\n", what, due);
 }
 
-/* Every bit flipped in turn. */
+/* Whether nothing was written behind a buffer. */
+static int is_within(const struct lent *before, const struct lent *after)
+{
+    return memcmp(before->image + TONDRAVIK_IMAGE, after->image + TONDRAVIK_IMAGE, ROOM) == 0 &&
+           memcmp(before->memory + (1u << N), after->memory + (1u << N), ROOM) == 0 &&
+           memcmp(before->area + TONDRAVIK_AREA_M32, after->area + TONDRAVIK_AREA_M32, ROOM) == 0 &&
+           memcmp(before->output + CLOCKS, after->output + CLOCKS, ROOM) == 0 &&
+           memcmp(before->counts + TONDRAVIK_COUNTS, after->counts + TONDRAVIK_COUNTS,
+                  ROOM * sizeof before->counts[0]) == 0;
+}
+
+/* Every bit flipped in turn. What a call leaves of a valid image the next call accepts. */
 static void flip(const char *name, const struct lent *x, size_t area_length)
 {
     unsigned valid = 0, refused = 0;
@@ -87,11 +98,16 @@ static void flip(const char *name, const struct lent *x, size_t area_length)
         for (int k = 0; k < CALLS; k++) {
             struct lent y = flipped;
             unsigned answer = call(k, &y, TONDRAVIK_IMAGE, area_length, TONDRAVIK_COUNTS);
+            if (!is_within(&flipped, &y)) {
+                fail(name, answer);
+            }
             if (answer == TONDRAVIK_STATE) {
                 threes += 1;
                 if (!is_kept(k, &flipped, &y, TONDRAVIK_COUNTS)) {
                     fail(name, answer);
                 }
+            } else if (call(2, &y, TONDRAVIK_IMAGE, area_length, TONDRAVIK_COUNTS) == TONDRAVIK_STATE) {
+                fail(name, TONDRAVIK_STATE);
             }
         }
         if (threes != 0 && threes != CALLS) {
@@ -117,6 +133,23 @@ static void begin(struct lent *x, size_t area_length, const uint8_t *bytes, size
     if (answer != TONDRAVIK_DONE) {
         fail("begin", answer);
     }
+}
+
+/* Calls of part P with no area, no samples and no output. */
+static void empty(const uint8_t *fresh)
+{
+    static uint8_t image[TONDRAVIK_IMAGE], memory[1u << N];
+    size_t counts[TONDRAVIK_COUNTS] = {1, 1, 1, 1, 1};
+    const size_t size = sizeof memory;
+    unsigned opened, fed, closed, whole, cycled;
+    memcpy(image, fresh, sizeof image);
+    opened = tondravik_open(image, sizeof image, memory, size, NULL, 0);
+    fed = tondravik_feed(image, sizeof image, memory, size, NULL, 0, NULL, 0, NULL, 0);
+    closed = tondravik_close(image, sizeof image, memory, size, NULL, 0, counts, TONDRAVIK_COUNTS);
+    whole = tondravik_transact(image, sizeof image, memory, size, NULL, 0, NULL, 0, NULL, 0, counts, TONDRAVIK_COUNTS);
+    cycled = tondravik_power_cycle(image, sizeof image, memory, size, NULL, 0);
+    printf("no clocks, with NULL: opened %u, fed %u, closed %u, whole %u, power cycle %u\n", opened, fed, closed, whole,
+           cycled);
 }
 
 int main(void)
@@ -163,9 +196,12 @@ int main(void)
            (unsigned)tondravik_fresh_m(22, identity, 4, identity, 8, x.image, TONDRAVIK_IMAGE),
            (unsigned)tondravik_fresh_m32(23, identity, 4, identity, 8, x.image, TONDRAVIK_IMAGE),
            (unsigned)tondravik_fresh_m(N, identity, 4, identity, 8, x.image, 129));
-    if (memcmp(&x, &m, sizeof x) != 0) {
+    if (!is_kept(1, &m, &x, 0)) {
         fail("fresh", 0);
     }
+
+    /* an empty buffer may be NULL also in a call that is made */
+    empty(p.image);
 
     /* flips */
     flip("fresh part M", &m, TONDRAVIK_AREA_M);

@@ -1,36 +1,44 @@
-/* Generated calls over images, made through the C interface, and for each the line that the second program prints for
- * it: the answer, the counts, the image, and digests of memory, area and output. The calls come on standard input in the
- * format of second/README.md; those over records are not C's, and end the run with `cut`, as any other fault does. */
+/* Generated calls over images, made through the C interface, and for each the line that the second program prints
+ * for it: the answer, the counts, the image, and digests of memory, area and output. The calls come on standard
+ * input in the format of second/README.md; those over records are not C's, and end the run with `cut`, as any other
+ * fault does. */
 #include "tondravik.h"
 
 #include <stdio.h>
 #include <stdlib.h>
+#include <string.h>
 
 enum { HEAD = 32, MOST_IMAGE = 256, MOST = 1 << 24 };
 enum { TRANSACT = 11, POWER_CYCLE = 12, OPEN = 13, FEED = 14, CLOSE = 15, FRESH_M = 21, FRESH_P = 22, FRESH_M32 = 23 };
 
-/* What is lent. Memory, area and image stay as a call left them for one that goes on. Each has just the room that is
- * lent, so that a step past its end is seen where the machine can see it. */
+/* What is lent. Image, memory and area stay as a call left them for one that goes on. Behind each buffer lies a margin
+ * that no call may touch. */
+enum { MARGIN = 16, FILL = 0x5A };
 struct buffer {
     uint8_t *bytes;
     size_t length;
 };
 static struct buffer image, memory, area, samples, output;
 
-static void *owned(size_t length)
-{
-    void *room = malloc(length != 0 ? length : 1);
-    if (room == NULL) {
-        exit(2);
-    }
-    return room;
-}
-
 static void renew(struct buffer *b, size_t length)
 {
     free(b->bytes);
-    b->bytes = owned(length);
+    b->bytes = malloc(length + MARGIN);
     b->length = length;
+    if (b->bytes == NULL) {
+        exit(2);
+    }
+    memset(b->bytes + length, FILL, MARGIN);
+}
+
+static int is_kept(const struct buffer *b)
+{
+    for (size_t i = 0; i < MARGIN; i++) {
+        if (b->bytes[b->length + i] != FILL) {
+            return 0;
+        }
+    }
+    return 1;
 }
 
 static int take(uint8_t *bytes, size_t length)
@@ -129,7 +137,7 @@ static int lend(const uint8_t *head, int any)
     for (size_t i = 0; i < output.length; i++) {
         output.bytes[i] = (uint8_t)(seed + 11 + 13 * i);
     }
-    if (head[0] >= FRESH_M && (device_length > samples.length || unique_length > samples.length - device_length)) {
+    if (device_length > samples.length || unique_length > samples.length - device_length) {
         return 0;
     }
     return take(samples.bytes, samples.length);
@@ -143,12 +151,19 @@ int main(void)
     while ((length = fread(head, 1, HEAD, stdin)) != 0) {
         size_t counts[TONDRAVIK_COUNTS] = {0};
         unsigned answer;
+        if (length == HEAD && (head[0] == TRANSACT || head[0] == CLOSE)) {
+            memset(counts, 0xFF, sizeof counts); /* these two have to write them */
+        }
         if (length != HEAD || !lend(head, number != 0)) {
             printf("cut\n");
             break;
         }
         answer = call(head, number_at(head, 4), number_at(head, 8), counts);
         number += 1;
+        if (!is_kept(&image) || !is_kept(&memory) || !is_kept(&area) || !is_kept(&samples) || !is_kept(&output)) {
+            printf("call %lu has written past the end of a buffer\n", number);
+            return 1;
+        }
         printf("%lu %u", number, answer);
         for (size_t i = 0; i < TONDRAVIK_COUNTS; i++) {
             printf(" %zu", counts[i]);

@@ -1,6 +1,6 @@
 -- UNIQUE, once for every function. A contract is an equation between what a call shows, its result with all that it leaves in what is lent, and a definition.
--- Where all of that is found again in what is shown, any two that meet the contract for the same inputs are equal. `device`, `host`, `tape`, `tape_session`
--- and `cabi` have a line for each function that leaves something in what is lent.
+-- Where all of that is found again in what is shown, any two that meet the contract for the same inputs are equal. `device`, `image_calls`, `host`, `tape`,
+-- `tape_session` and `cabi` have a line for each function that leaves something in what is lent.
 -- Assumes nothing.
 use mathlib.Core.Path.{_≡_, sym, ap, _∙_}
 

@@ -3,26 +3,34 @@
 -- Assumes nothing.
 use mathlib.Core.Path.{_≡_, refl, sym, ap, _∙_}
 use Prim.Native.Nat.{ℕ}
-use mathlib.Core.Bool.{Bool, true, false, cond, not}
+use mathlib.Core.Bool.{Bool, true, false, cond, not, _&&_}
 use mathlib.Core.List.{List, [], _∷_}
+use lib.Dec.{eqb}
+use lib.ListN.{length, replicate}
 use Rattle.basis.specs.Decisions.{firstOf}
+use Rattle.parts.specs.declared.Part.{Part}
+use Rattle.parts.specs.declared.Part.the-variants.{M, P, M32}
+use Rattle.parts.specs.Parts.{offered}
 use Rattle.counts.specs.declared.Counts.{Counts}
 use Rattle.counts.specs.Counts.{noCounts}
 use Rattle.record.specs.declared.answers.Answer.{Answer}
-use Rattle.record.specs.declared.answers.Answer.the-variants.{Size, State}
+use Rattle.record.specs.declared.answers.Answer.the-variants.{Done, Size, State}
 use Rattle.record.specs.declared.devices.Device.{Device}
 use Rattle.record.specs.Answers.{answerNumber, refuses, refusing}
+use Rattle.record.specs.Fresh.{makeOf, freshOf}
 use Rattle.record.specs.Laws.{refusing-is}
 use Rattle.paper.specs.Storing.{Lent}
 use Rattle.paper.specs.Transaction.{clockedOf, poweredUp, transactChecks, powerChecks, openChecks, feedChecks, closeChecks}
 use Rattle.machine_chunks.specs.Chunks.{openedWorld, fedWorld, closedWorld}
+use Rattle.image.specs.Layout.{imageSize}
 use Rattle.image.specs.Image.{recordOf}
-use Rattle.image.specs.Back.{Bytes}
+use Rattle.image.specs.Back.{EachByte}
 use Rattle.image_check.specs.Accepted.{accepted}
-use Rattle.image_calls.specs.Calls.{Imaged, transactIn, powerIn, openIn, feedIn, closeIn}
-use Rattle.image_calls.specs.Refused.{Unmoved, transact-refused, power-refused, open-refused, feed-refused, close-refused, transact-order, power-order, open-order, feed-order, close-order}
+use Rattle.image_calls.specs.Calls.{Imaged, imageCheck, transactIn, powerIn, openIn, feedIn, closeIn}
+use Rattle.image_calls.specs.Refused.{Unmoved, transact-refused, power-refused, open-refused, feed-refused, close-refused, transact-order, power-order, open-order, feed-order, close-order, fresh-refused, fresh-order}
+use Rattle.image_calls.specs.Fresh.{made, freshMramIn, freshPIn}
 use Rattle.words.specs.Words.{hasCounts, countsOver}
-use Rattle.cabi.specs.Calls.{Call, inWords, unroomedAnswer, unroomedNumber, counted, transactFrom, powerFrom, openFrom, feedFrom, closeFrom}
+use Rattle.cabi.specs.Calls.{Call, inWords, unroomedNumber, counted, madeFrom, freshMFrom, freshM32From, freshPFrom, transactFrom, powerFrom, openFrom, feedFrom, closeFrom}
 
 -- nothing has changed
 pub record Kept (image : List ℕ) (l : Lent) (out counts : List ℕ) (k : Call) : Type 0 where
@@ -55,8 +63,8 @@ module _ (image : List ℕ) (l : Lent) (out counts : List ℕ) (k : Imaged) wher
       by false n e = record { image-kept = refl; lent-kept = refl; output-kept = refl; counts-none = rw n }
 
   -- the order, where that of the call over the image is known
-  counted-order : (v : Answer) (cs : List (Bool × Answer)) → k .answer ≡ firstOf v ((not (accepted image), State) ∷ cs)
-      → counted image l out counts k .answer ≡ answerNumber (firstOf v ((not (accepted image), State) ∷ (not (hasCounts counts), Size) ∷ cs))
+  counted-order : (v : Answer) (cs : List (Bool × Answer)) → k .answer ≡ firstOf v (imageCheck image ∷ cs)
+      → counted image l out counts k .answer ≡ answerNumber (firstOf v (imageCheck image ∷ (not (hasCounts counts), Size) ∷ cs))
   unfolding unroomedNumber
   counted-order v cs e = by (hasCounts counts)
     where
@@ -68,12 +76,12 @@ module _ (image : List ℕ) (l : Lent) (out counts : List ℕ) (k : Imaged) wher
       later true = refl
       later false = refl
 
-      by : (b : Bool) → cond b (inWords k counts) unroomed .answer ≡ answerNumber (firstOf v ((not (accepted image), State) ∷ (not b, Size) ∷ cs))
+      by : (b : Bool) → cond b (inWords k counts) unroomed .answer ≡ answerNumber (firstOf v (imageCheck image ∷ (not b, Size) ∷ cs))
       by true = ap answerNumber (e ∙ later (accepted image))
       by false = ap answerNumber (sooner (accepted image))
 
 -- ---- in the words of each call
-module _ (image : List ℕ) (b : Bytes image) (l : Lent) where
+module _ (image : List ℕ) (b : EachByte image) (l : Lent) where
   -- REFUSED
   pub transact-kept : (xs out counts : List ℕ) → refusing (transactFrom image l xs out counts .answer) ≡ true → Kept image l out counts (transactFrom image l xs out counts)
   unfolding transactFrom
@@ -99,30 +107,69 @@ module _ (image : List ℕ) (l : Lent) where
   abbrev d : Device
   d = recordOf image
 
-  -- 3 comes first
-  abbrev imageCheck : Bool × Answer
-  imageCheck = (not (accepted image), State)
-
   -- EXACT ORDER
   pub transact-ordered : (xs out counts : List ℕ)
-      → transactFrom image l xs out counts .answer ≡ answerNumber (firstOf (clockedOf d l xs out .answer) (imageCheck ∷ (not (hasCounts counts), Size) ∷ transactChecks d l xs out))
+      → transactFrom image l xs out counts .answer ≡ answerNumber (firstOf (clockedOf d l xs out .answer) (imageCheck image ∷ (not (hasCounts counts), Size) ∷ transactChecks d l xs out))
   unfolding transactFrom
   transact-ordered xs out counts =
       counted-order image l out counts (transactIn image l xs out) (clockedOf d l xs out .answer) (transactChecks d l xs out) (transact-order image l xs out)
 
   pub close-ordered : (counts : List ℕ)
-      → closeFrom image l counts .answer ≡ answerNumber (firstOf (closedWorld d l .answer) (imageCheck ∷ (not (hasCounts counts), Size) ∷ closeChecks d l))
+      → closeFrom image l counts .answer ≡ answerNumber (firstOf (closedWorld d l .answer) (imageCheck image ∷ (not (hasCounts counts), Size) ∷ closeChecks d l))
   unfolding closeFrom
   close-ordered counts = counted-order image l [] counts (closeIn image l) (closedWorld d l .answer) (closeChecks d l) (close-order image l)
 
-  pub power-ordered : powerFrom image l .answer ≡ answerNumber (firstOf (poweredUp d l .answer) (imageCheck ∷ powerChecks d l))
+  pub power-ordered : powerFrom image l .answer ≡ answerNumber (firstOf (poweredUp d l .answer) (imageCheck image ∷ powerChecks d l))
   unfolding powerFrom
   power-ordered = ap answerNumber (power-order image l)
 
-  pub open-ordered : openFrom image l .answer ≡ answerNumber (firstOf (openedWorld d l .answer) (imageCheck ∷ openChecks d l))
+  pub open-ordered : openFrom image l .answer ≡ answerNumber (firstOf (openedWorld d l .answer) (imageCheck image ∷ openChecks d l))
   unfolding openFrom
   open-ordered = ap answerNumber (open-order image l)
 
-  pub feed-ordered : (xs out : List ℕ) → feedFrom image l xs out .answer ≡ answerNumber (firstOf (fedWorld d l xs out .answer) (imageCheck ∷ feedChecks d l xs out))
+  pub feed-ordered : (xs out : List ℕ) → feedFrom image l xs out .answer ≡ answerNumber (firstOf (fedWorld d l xs out .answer) (imageCheck image ∷ feedChecks d l xs out))
   unfolding feedFrom
   feed-ordered xs out = ap answerNumber (feed-order image l xs out)
+
+-- ---- fresh chips: refused, the image is as it was; 3 for its length comes first, then 1
+module _ (n : ℕ) (device image : List ℕ) where
+  abbrev long : Bool
+  long = eqb (length image) imageSize
+
+  kept : (fits : Bool) (c : Device) → refusing (madeFrom (made fits c image) .answer) ≡ true → madeFrom (made fits c image) .image ≡ image
+  kept fits c e = fresh-refused fits c image (sym (refusing-is (made fits c image .answer)) ∙ e)
+
+  ordered : (fits : Bool) (c : Device) → madeFrom (made fits c image) .answer ≡ answerNumber (firstOf Done ((not long, State) ∷ (not fits, Size) ∷ []))
+  ordered fits c = ap answerNumber (fresh-order fits c image)
+
+  -- what each asks for besides
+  abbrev pub mramFits : Part → List ℕ → Bool
+  mramFits p unique = offered p n && (eqb (length device) 4 && eqb (length unique) 8)
+
+  abbrev pub psramFits : Bool
+  psramFits = offered P n && eqb (length device) 8
+
+  module _ (unique : List ℕ) where
+    pub fresh-m-kept : refusing (freshMFrom n device unique image .answer) ≡ true → freshMFrom n device unique image .image ≡ image
+    unfolding freshMFrom freshMramIn
+    fresh-m-kept = kept (mramFits M unique) (freshOf (makeOf M n) device unique)
+
+    pub fresh-m32-kept : refusing (freshM32From n device unique image .answer) ≡ true → freshM32From n device unique image .image ≡ image
+    unfolding freshM32From freshMramIn
+    fresh-m32-kept = kept (mramFits M32 unique) (freshOf (makeOf M32 n) device unique)
+
+    pub fresh-m-ordered : freshMFrom n device unique image .answer ≡ answerNumber (firstOf Done ((not long, State) ∷ (not (mramFits M unique), Size) ∷ []))
+    unfolding freshMFrom freshMramIn
+    fresh-m-ordered = ordered (mramFits M unique) (freshOf (makeOf M n) device unique)
+
+    pub fresh-m32-ordered : freshM32From n device unique image .answer ≡ answerNumber (firstOf Done ((not long, State) ∷ (not (mramFits M32 unique), Size) ∷ []))
+    unfolding freshM32From freshMramIn
+    fresh-m32-ordered = ordered (mramFits M32 unique) (freshOf (makeOf M32 n) device unique)
+
+  pub fresh-p-kept : refusing (freshPFrom n device image .answer) ≡ true → freshPFrom n device image .image ≡ image
+  unfolding freshPFrom freshPIn
+  fresh-p-kept = kept psramFits (freshOf (makeOf P n) device (replicate 8 0))
+
+  pub fresh-p-ordered : freshPFrom n device image .answer ≡ answerNumber (firstOf Done ((not long, State) ∷ (not psramFits, Size) ∷ []))
+  unfolding freshPFrom freshPIn
+  fresh-p-ordered = ordered psramFits (freshOf (makeOf P n) device (replicate 8 0))

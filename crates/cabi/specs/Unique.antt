@@ -1,16 +1,13 @@
 -- UNIQUE for the ten calls from C, a line for each by its name. What their contracts show is the answer and every buffer as the call leaves it, as they are, so that there is nothing to find again.
 -- Assumes nothing.
-use mathlib.Core.Path.{_≡_, refl}
+use mathlib.Core.Path.{_≡_}
 use mathlib.Core.List.{List}
 use Prim.Native.Nat.{ℕ}
-use Rattle.basis.specs.Unique.{unique}
+use Rattle.image_calls.specs.Unique.{one}
 use Rattle.paper.specs.Storing.{Lent}
 use Rattle.paper.specs.Building.{Order}
 use Rattle.cabi.specs.Calls.{Numbered, Call, freshMFrom, freshM32From, freshPFrom, transactFrom, powerFrom, openFrom, feedFrom, closeFrom}
 use Rattle.cabi.specs.Fills.{Filled, buildIn, gatherIn}
-
-one : {L : Type 0} {x y v : L} → x ≡ v → y ≡ v → x ≡ y
-one {L} = unique (λ (x : L). x) (λ (x : L). x) (λ x. refl)
 
 module _ (n : ℕ) (device image : List ℕ) {x y : Numbered} where
   pub tondravik-fresh-m-unique : (identity : List ℕ) → x ≡ freshMFrom n device identity image → y ≡ freshMFrom n device identity image → x ≡ y

@@ -16,7 +16,7 @@ use words::NUMBER;
 use words::put_counts;
 use words::put_number;
 
-// The answers that a call gives for its words.
+// What a call without its words answers: 1, or 3 where the bytes are no image.
 const SIZE: u8 = 1;
 
 const STATE: u8 = 3;

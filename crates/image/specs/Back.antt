@@ -11,8 +11,6 @@ use lib.ListN.{length, getD, take, drop, replicate, length-drop, drop-of-length-
 use lib.Seq.{drop-cons, drop-drop, length-take-le}
 use borrow.Author.Tests.{eqb-true, leb-true}
 use Rattle.basis.specs.Truth.{both-true}
-use Rattle.units.specs.Units.{clocks}
-use Rattle.record.specs.declared.devices.Registers.{Registers}
 use Rattle.record.specs.declared.devices.Volatile.{Volatile}
 use Rattle.record.specs.declared.devices.Identities.{Identities}
 use Rattle.record.specs.declared.devices.Underway.{Underway}
@@ -22,16 +20,16 @@ use Rattle.state_check.specs.StateLaws.{zeros-all}
 use Rattle.image.specs.declared.fields.Field.{Field}
 use Rattle.image.specs.declared.fields.Field.the-variants as At
 use Rattle.image.specs.Layout.{imageSize, offsetOf, sizeOf, layout}
-use Rattle.image.specs.Image.{bitOf, fourOf, eightFrom, eightOf, fieldOf, joined, imageOf, fourFrom, recordOf, volatileAt, identitiesAt, underwayAt, pieceAt, isFlag, flagged, spared, shaped}
+use Rattle.image.specs.Image.{bitOf, fourOf, eightFrom, fieldOf, joined, imageOf, fourFrom, recordOf, volatileAt, identitiesAt, underwayAt, pieceAt, isFlag, flagged, spared, shaped}
 use Rattle.image.specs.Laws.{next, eight-is, eight-whole}
 
 -- ---- as the types of the code have it
--- bytes are bytes
-abbrev pub Bytes : List ℕ → Type 0
-Bytes bs = (i : ℕ) → getD bs i 0 < 256
+-- each is below 256
+abbrev pub EachByte : List ℕ → Type 0
+EachByte bs = (i : ℕ) → getD bs i 0 < 256
 
 -- arrays have eight places, numbers have four bytes
-pub record Typed (d : Device) : Type 0 where
+pub record InTypes (d : Device) : Type 0 where
   pub device : length (d .identity .device) ≡ 8
   pub unique : length (d .identity .unique) ≡ 8
   pub serial : length (d .identity .serial) ≡ 8
@@ -59,7 +57,7 @@ pub four-back : (n : ℕ) → n < 4294967296 → fourFrom 0 (fourOf n) ≡ n
 four-back n h = omega arith
 
 -- READ BACK
-module _ (d : Device) (t : Typed d) where
+module _ (d : Device) (t : InTypes d) where
   volatile-back : volatileAt (imageOf d) ≡ d .volatile
   unfolding imageOf
   volatile-back = let v = d .volatile in rw (flag-back (v .latch), flag-back (v .armed), flag-back (v .asleep), flag-back (v .toggle))
@@ -128,7 +126,7 @@ module _ (a b c d : ℕ) (k : a < 256) (l : b < 256) (m : c < 256) (n : d < 256)
       let e₃ : d % 256 ≡ d = omega arith in
       rw (e₀, q₁, e₁, q₂, e₂, q₃, e₃)
 
-four-is : (l : List ℕ) → Bytes l → (at : ℕ) → at + 4 ≤ length l → fourOf (fourFrom at l) ≡ take 4 (drop at l)
+four-is : (l : List ℕ) → EachByte l → (at : ℕ) → at + 4 ≤ length l → fourOf (fourFrom at l) ≡ take 4 (drop at l)
 four-is l b at h =
     digits (getD l at 0) (getD l (at + 1) 0) (getD l (at + 2) 0) (getD l (at + 3) 0) (b at) (b (at + 1)) (b (at + 2)) (b (at + 3))
     ∙ rw (
@@ -189,7 +187,7 @@ unfolding shaped
 shaped-long bs s = eqb-true (length bs) imageSize (both-true (eqb (length bs) imageSize) (flagged bs && spared bs) s .0)
 
 -- WRITTEN BACK
-module _ (bs : List ℕ) (b : Bytes bs) (s : shaped bs ≡ true) where
+module _ (bs : List ℕ) (b : EachByte bs) (s : shaped bs ≡ true) where
   n : length bs ≡ imageSize
   n = shaped-long bs s
 
@@ -249,7 +247,7 @@ module _ (bs : List ℕ) (b : Bytes bs) (s : shaped bs ≡ true) where
       let w = b (at + 3) in
       omega arith
 
-  pub read-typed : Typed (recordOf bs)
+  pub read-typed : InTypes (recordOf bs)
   unfolding recordOf
   read-typed =
       record { device = refl; unique = refl; serial = refl; value = refl; clocks = four-below 68; address = four-below 72; number = four-below 76 }

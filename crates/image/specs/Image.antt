@@ -37,7 +37,7 @@ eightOf bs = eightFrom 0 bs
 abbrev pub fieldOf : Device → Field → List ℕ
 fieldOf d At.Part = d .make .part ∷ []
 fieldOf d At.N = d .make .n ∷ []
-fieldOf d At.BesideMake = replicate 2 0
+fieldOf d At.BesideMake = replicate (sizeOf At.BesideMake) 0
 fieldOf d At.Status = d .registers .status ∷ []
 fieldOf d At.AreaProtection = d .registers .protection ∷ []
 fieldOf d At.Configuration1 = d .registers .cr1 ∷ []
@@ -53,15 +53,15 @@ fieldOf d At.Toggle = bitOf (d .volatile .toggle) ∷ []
 fieldOf d At.DeviceIdentity = eightOf (d .identity .device)
 fieldOf d At.UniqueNumber = eightOf (d .identity .unique)
 fieldOf d At.SerialNumber = eightOf (d .identity .serial)
-fieldOf d At.BesideIdentities = replicate 24 0
+fieldOf d At.BesideIdentities = replicate (sizeOf At.BesideIdentities) 0
 fieldOf d At.Selected = bitOf (d .underway .selected) ∷ []
 fieldOf d At.Opcode = d .underway .opcode ∷ []
-fieldOf d At.BesideOpcode = replicate 2 0
+fieldOf d At.BesideOpcode = replicate (sizeOf At.BesideOpcode) 0
 fieldOf d At.Clocks = fourOf (d .underway .clocks .0)
 fieldOf d At.Address = fourOf (d .underway .address)
 fieldOf d At.Number = fourOf (d .underway .number)
 fieldOf d At.Value = eightOf (d .underway .value)
-fieldOf d At.BesideValue = replicate 40 0
+fieldOf d At.BesideValue = replicate (sizeOf At.BesideValue) 0
 
 -- the bytes of all fields, one field after the other
 abbrev pub joined : (Field → List ℕ) → List Field → List ℕ
@@ -155,6 +155,6 @@ spared bs =
     && (zeros (pieceAt bs At.BesideOpcode)
     && zeros (pieceAt bs At.BesideValue)))
 
--- SHAPED: as many bytes as there are, and no byte out of its shape. Whether the record is a chip's is another question
+-- SHAPED: an image's length, and no flag and no spare byte out of its shape. Whether the record is a chip's is another question
 unfoldable pub shaped : List ℕ → Bool
 shaped bs = eqb (length bs) imageSize && (flagged bs && spared bs)

@@ -87,22 +87,22 @@ module _ (d : Device) (out : List ℕ) where
   abbrev device : List ℕ
   device = eightOf (d .identity .device)
 
-  abbrev identity : List ℕ
-  identity = eightOf (d .identity .unique)
+  abbrev unique : List ℕ
+  unique = eightOf (d .identity .unique)
 
   abbrev serial : List ℕ
   serial = eightOf (d .identity .serial)
 
   pub front-put : {o₁ o₂ o₃ o₄ o₅ : List ℕ} {a b c e i : ℕ} → page a o₁ ≡ putsOf (bareBytes d) (page 0 out) → page b o₂ ≡ putsOf device (page a o₁)
-      → page c o₃ ≡ putsOf identity (page b o₂) → page e o₄ ≡ putsOf serial (page c o₃) → page i o₅ ≡ putsOf (replicate 24 0) (page e o₄)
+      → page c o₃ ≡ putsOf unique (page b o₂) → page e o₄ ≡ putsOf serial (page c o₃) → page i o₅ ≡ putsOf (replicate 24 0) (page e o₄)
       → page i o₅ ≡ putsOf (frontBytes d) (page 0 out)
   unfolding frontBytes
   front-put p q r s t =
       let f = page 0 out in
       let one = onto f (bareBytes d) device p q in
-      let two = onto f (bareBytes d ++ device) identity one r in
-      let three = onto f (bareBytes d ++ device ++ identity) serial two s in
-      onto f (bareBytes d ++ device ++ identity ++ serial) (replicate 24 0) three t
+      let two = onto f (bareBytes d ++ device) unique one r in
+      let three = onto f (bareBytes d ++ device ++ unique) serial two s in
+      onto f (bareBytes d ++ device ++ unique ++ serial) (replicate 24 0) three t
 
   pub image-put : {o₁ o₂ : List ℕ} {i j : ℕ} → length out ≡ imageSize → page i o₁ ≡ putsOf (frontBytes d) (page 0 out)
       → page j o₂ ≡ putsOf (backBytes (d .underway)) (page i o₁) → o₂ ≡ imageOf d

@@ -1,6 +1,6 @@
 -- The device's calls over an image. Document 02, P8: the answer, the counts, the output, memory and area are those of the call over the record, and the image is that of the next record.
 use Prim.Native.Nat.{ℕ}
-use mathlib.Core.Bool.{cond}
+use mathlib.Core.Bool.{Bool, cond, not}
 use mathlib.Core.List.{List, []}
 use Rattle.counts.specs.declared.Counts.{Counts}
 use Rattle.counts.specs.Counts.{noCounts}
@@ -30,6 +30,10 @@ imaged w = record { answer = w .answer; counts = w .counts; image = imageOf (w .
 -- 3: nothing changes
 abbrev pub strangeTo : List ℕ → Lent → List ℕ → Imaged
 strangeTo image l out = record { answer = State; counts = noCounts; image = image; lent = l; output = out }
+
+-- the check that comes first
+abbrev pub imageCheck : List ℕ → Bool × Answer
+imageCheck image = (not (accepted image), State)
 
 -- A CALL OVER AN IMAGE, by what it leaves over the record: 3 comes before all that the call checks itself
 abbrev pub overImage : List ℕ → Lent → List ℕ → World → Imaged

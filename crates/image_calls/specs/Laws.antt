@@ -10,7 +10,7 @@ use Rattle.paper.specs.Transaction.{World}
 use Rattle.contract_words.specs.Words.{lends, worldOf}
 use Rattle.image_check.specs.Accepted.{accepted}
 use Rattle.image_calls.specs.declared.Reply.{Reply}
-use Rattle.image_calls.specs.Calls.{Imaged, Leaves, imaged, strangeReply, leavesAs, leftReply, imagedAs, overImage}
+use Rattle.image_calls.specs.Calls.{Leaves, imaged, strangeReply, leavesAs, leftReply, imagedAs, overImage}
 
 -- bytes that are no image's
 pub turned-away : {r : Reply} (image memory area out : List ℕ) (w : World) → accepted image ≡ false → r ≡ strangeReply

@@ -9,12 +9,12 @@ use Rattle.paper.specs.Storing.{Lent}
 use Rattle.paper.specs.Transaction.{World, transactOf, powerOf}
 use Rattle.machine_chunks.specs.Chunks.{openOf, feedOf, closeOf}
 use Rattle.image.specs.Image.{imageOf, recordOf}
-use Rattle.image.specs.Back.{Typed, read-back}
+use Rattle.image.specs.Back.{InTypes, read-back}
 use Rattle.image_check.specs.Accepted.{validRecord}
 use Rattle.image_check.specs.Laws.{image-accepted}
 use Rattle.image_calls.specs.Calls.{imaged, overImage, transactIn, powerIn, openIn, feedIn, closeIn}
 
-module _ (d : Device) (t : Typed d) (v : validRecord d ≡ true) (l : Lent) where
+module _ (d : Device) (t : InTypes d) (v : validRecord d ≡ true) (l : Lent) where
   -- for any call
   same : (out : List ℕ) (call : Device → World) → overImage (imageOf d) l out (call (recordOf (imageOf d))) ≡ imaged (call d)
   same out call = rw (image-accepted d t v) (ap (λ (e : Device). imaged (call e)) (read-back d t))

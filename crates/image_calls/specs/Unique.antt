@@ -42,10 +42,11 @@ module _ (image : List ℕ) (l : Lent) {x y : Ended} where
   pub close-unique : shows x ≡ closeIn image l → shows y ≡ closeIn image l → x ≡ y
   close-unique = one-end
 
--- a fresh chip: what the contract shows is the answer and the image as they are
-one : {x y v : Made} → x ≡ v → y ≡ v → x ≡ y
-one = unique (λ (x : Made). x) (λ (x : Made). x) (λ x. refl)
+-- where the contract shows all that is left as it is
+pub one : {L : Type 0} {x y v : L} → x ≡ v → y ≡ v → x ≡ y
+one {L} = unique (λ (x : L). x) (λ (x : L). x) (λ x. refl)
 
+-- a fresh chip
 module _ (n : ℕ) (device image : List ℕ) {x y : Made} where
   pub fresh-m-unique : (identity : List ℕ) → x ≡ freshMIn n device identity image → y ≡ freshMIn n device identity image → x ≡ y
   fresh-m-unique identity = one

@@ -1,4 +1,4 @@
--- Which bytes are the image of a valid record. Document 02, P8: 3 for an image of another length or that no valid record has.
+-- Which bytes are the image of a valid record; all others are answered 3. Document 02, P8.
 use Prim.Native.Nat.{ℕ}
 use mathlib.Core.Bool.{Bool, _&&_}
 use mathlib.Core.List.{List}

@@ -1,6 +1,6 @@
 -- Document 02, P8, worked out: which images are accepted, an open transaction included, and which bytes no valid record has.
 use Prim.Native.Nat.{ℕ}
-use mathlib.Core.Bool.{Bool, true, false, not}
+use mathlib.Core.Bool.{Bool, not}
 use mathlib.Core.List.{List, [], _∷_, _++_, map}
 use lib.Dec.{T}
 use lib.ListN.{set, take, replicate}

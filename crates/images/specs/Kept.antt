@@ -4,7 +4,7 @@ use mathlib.Core.Path.{_≡_, refl, sym, ap, subst, _∙_}
 use Prim.Native.Nat.{ℕ, _*_, _<_, _≤_}
 use native.Mathlib.Nat.{le-refl, lt-of-lt-of-le, mod-lt, mul-zero}
 use native.Mathlib.Omega.{arith}
-use mathlib.Core.Bool.{Bool, true, false, cond, not, _&&_}
+use mathlib.Core.Bool.{Bool, true, false, cond, _&&_}
 use mathlib.Core.List.{List, []}
 use lib.Dec.{eqb, ltb}
 use lib.ListN.{length, getD, replicate}
@@ -65,7 +65,7 @@ use Rattle.chunks.specs.Typed.{Eight, facts-typed}
 use Rattle.chunks.specs.Promises.{open-kept, open-typed, transact-typed, power-typed, feed-kept, feed-typed, close-kept, close-typed}
 use Rattle.image.specs.Layout.{imageSize}
 use Rattle.image.specs.Image.{imageOf, recordOf}
-use Rattle.image.specs.Back.{Bytes, Typed}
+use Rattle.image.specs.Back.{EachByte, InTypes}
 use Rattle.image_check.specs.Accepted.{validRecord, accepted}
 use Rattle.image_check.specs.Laws.{accepted-valid, accepted-typed, valid-state, image-accepted}
 use Rattle.image_calls.specs.Calls.{overImage, transactIn, powerIn, openIn, feedIn, closeIn}
@@ -235,7 +235,7 @@ record Next (d e : Device) : Type 0 where
   places : Places (e .identity)
   value : length (e .underway .value) ≡ 8
 
-typed : (d : Device) → validOf d ≡ true → Places (d .identity) → length (d .underway .value) ≡ 8 → Typed d
+typed : (d : Device) → validOf d ≡ true → Places (d .identity) → length (d .underway .value) ≡ 8 → InTypes d
 typed d v p e =
     let b = valid-below d v in
     record { device = p .device; unique = p .unique; serial = p .serial; value = e; clocks = b .clocks; address = b .address; number = b .number }
@@ -253,7 +253,7 @@ next-accepted : (d e : Device) → validRecord d ≡ true → Next d e → accep
 next-accepted d e v n = image-accepted e (typed e (n .valid) (n .places) (n .value)) (still d e v (n .make) (n .valid))
 
 -- ---- KEPT, by call
-module _ (image : List ℕ) (b : Bytes image) (y : accepted image ≡ true) where
+module _ (image : List ℕ) (b : EachByte image) (y : accepted image ≡ true) where
   abbrev d : Device
   d = recordOf image
 

@@ -1,8 +1,7 @@
 -- `cabi::tondravik_fresh_m32` meets its contract: the fresh chip of part M32, and its answer as a number.
 -- Assumes nothing.
-use mathlib.Core.Path.{ap, _∙_}
+use mathlib.Core.Path.{ap}
 use borrow.Author.Needs.{needs}
-use Rattle.image_calls.specs.Fresh.{Made}
 use Rattle.cabi.specs.Calls.{madeFrom, freshM32From}
 use Rattle.cabi.proofs.tondravik_fresh_m32.Statement.{statement}
 use Rattle.cabi.proofs.tondravik_fresh_m32.Tie as tie

@@ -1,6 +1,5 @@
 -- `image::shapes::is_shaped` meets its contract: each way is a test of the definition.
 -- Assumes nothing.
-use borrow.Author.Needs.{needs}
 use Rattle.image.specs.Image.{shaped}
 use borrow.Author.Tests.{not-true, not-false, eq-eqb, ne-eqb}
 use Rattle.image.proofs.shapes.is_shaped.Statement.{statement}
