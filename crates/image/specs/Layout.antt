@@ -1,71 +1,52 @@
 -- The table of the image: 128 bytes, each field at its place. Document 02, P8 (D94). The fields named `Beside..` are spare, and stand where the record may grow.
 use Prim.Native.Nat.{ℕ}
 use mathlib.Core.List.{List, [], _∷_}
+use Rattle.image.specs.declared.fields.Place.{Place}
 use Rattle.image.specs.declared.fields.Field.{Field}
 use Rattle.image.specs.declared.fields.Field.the-variants as At
 
 abbrev pub imageSize : ℕ
 imageSize = 128
 
--- where a field begins
-abbrev pub offsetOf : Field → ℕ
-offsetOf At.Part = 0
-offsetOf At.N = 1
-offsetOf At.BesideMake = 2
-offsetOf At.Status = 4
-offsetOf At.AreaProtection = 5
-offsetOf At.Configuration1 = 6
-offsetOf At.Configuration2 = 7
-offsetOf At.Configuration3 = 8
-offsetOf At.Configuration4 = 9
-offsetOf At.ModeRegister = 10
-offsetOf At.BusMode = 11
-offsetOf At.Latch = 12
-offsetOf At.Armed = 13
-offsetOf At.Asleep = 14
-offsetOf At.Toggle = 15
-offsetOf At.DeviceIdentity = 16
-offsetOf At.UniqueNumber = 24
-offsetOf At.SerialNumber = 32
-offsetOf At.BesideIdentities = 40
-offsetOf At.Selected = 64
-offsetOf At.Opcode = 65
-offsetOf At.BesideOpcode = 66
-offsetOf At.Clocks = 68
-offsetOf At.Address = 72
-offsetOf At.Number = 76
-offsetOf At.Value = 80
-offsetOf At.BesideValue = 88
+-- a place: where it begins, and how many bytes it has
+abbrev pub placeAs : ℕ → ℕ → Place
+placeAs offset size = record { offset = offset; size = size }
 
--- how many bytes it has
+-- THE TABLE
+abbrev pub placeOf : Field → Place
+placeOf At.Part = placeAs 0 1
+placeOf At.N = placeAs 1 1
+placeOf At.BesideMake = placeAs 2 2
+placeOf At.Status = placeAs 4 1
+placeOf At.AreaProtection = placeAs 5 1
+placeOf At.Configuration1 = placeAs 6 1
+placeOf At.Configuration2 = placeAs 7 1
+placeOf At.Configuration3 = placeAs 8 1
+placeOf At.Configuration4 = placeAs 9 1
+placeOf At.ModeRegister = placeAs 10 1
+placeOf At.BusMode = placeAs 11 1
+placeOf At.Latch = placeAs 12 1
+placeOf At.Armed = placeAs 13 1
+placeOf At.Asleep = placeAs 14 1
+placeOf At.Toggle = placeAs 15 1
+placeOf At.DeviceIdentity = placeAs 16 8
+placeOf At.UniqueNumber = placeAs 24 8
+placeOf At.SerialNumber = placeAs 32 8
+placeOf At.BesideIdentities = placeAs 40 24
+placeOf At.Selected = placeAs 64 1
+placeOf At.Opcode = placeAs 65 1
+placeOf At.BesideOpcode = placeAs 66 2
+placeOf At.Clocks = placeAs 68 4
+placeOf At.Address = placeAs 72 4
+placeOf At.Number = placeAs 76 4
+placeOf At.Value = placeAs 80 8
+placeOf At.BesideValue = placeAs 88 40
+
+abbrev pub offsetOf : Field → ℕ
+offsetOf f = placeOf f .offset
+
 abbrev pub sizeOf : Field → ℕ
-sizeOf At.Part = 1
-sizeOf At.N = 1
-sizeOf At.BesideMake = 2
-sizeOf At.Status = 1
-sizeOf At.AreaProtection = 1
-sizeOf At.Configuration1 = 1
-sizeOf At.Configuration2 = 1
-sizeOf At.Configuration3 = 1
-sizeOf At.Configuration4 = 1
-sizeOf At.ModeRegister = 1
-sizeOf At.BusMode = 1
-sizeOf At.Latch = 1
-sizeOf At.Armed = 1
-sizeOf At.Asleep = 1
-sizeOf At.Toggle = 1
-sizeOf At.DeviceIdentity = 8
-sizeOf At.UniqueNumber = 8
-sizeOf At.SerialNumber = 8
-sizeOf At.BesideIdentities = 24
-sizeOf At.Selected = 1
-sizeOf At.Opcode = 1
-sizeOf At.BesideOpcode = 2
-sizeOf At.Clocks = 4
-sizeOf At.Address = 4
-sizeOf At.Number = 4
-sizeOf At.Value = 8
-sizeOf At.BesideValue = 40
+sizeOf f = placeOf f .size
 
 -- the fields in the order of their places: each begins where the one before it ends
 abbrev pub layout : List Field

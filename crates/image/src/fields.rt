@@ -1,6 +1,6 @@
 // The table of the image: where each field begins, and how many bytes it has.
 ghost use mathlib.Core.Path.{_≡_};
-ghost use Rattle.image.specs.Layout.{offsetOf, sizeOf};
+ghost use Rattle.image.specs.Layout.{placeAs, placeOf, offsetOf, sizeOf};
 
 // The bytes of an image.
 pub const IMAGE: usize = 128;
@@ -90,72 +90,63 @@ pub enum Field {
     BesideValue,
 }
 
+// Where a field begins, and how many bytes it has.
+pub struct Place {
+    pub offset: usize,
+    pub size: usize,
+}
+
+fn stretch(offset: usize, size: usize) -> Place
+    ensures { λ r. ⌜ r ≡ placeAs offset size ⌝ }
+{
+    Place { offset, size }
+}
+
+// The table.
+pub fn place_of(f: Field) -> Place
+    ensures { λ r. ⌜ r ≡ placeOf f ⌝ }
+{
+    match f {
+        Field::Part => stretch(PART, 1),
+        Field::N => stretch(N, 1),
+        Field::BesideMake => stretch(BESIDE_MAKE, 2),
+        Field::Status => stretch(STATUS, 1),
+        Field::AreaProtection => stretch(AREA_PROTECTION, 1),
+        Field::Configuration1 => stretch(CONFIGURATION_1, 1),
+        Field::Configuration2 => stretch(CONFIGURATION_2, 1),
+        Field::Configuration3 => stretch(CONFIGURATION_3, 1),
+        Field::Configuration4 => stretch(CONFIGURATION_4, 1),
+        Field::ModeRegister => stretch(MODE_REGISTER, 1),
+        Field::BusMode => stretch(BUS_MODE, 1),
+        Field::Latch => stretch(LATCH, 1),
+        Field::Armed => stretch(ARMED, 1),
+        Field::Asleep => stretch(ASLEEP, 1),
+        Field::Toggle => stretch(TOGGLE, 1),
+        Field::DeviceIdentity => stretch(DEVICE_IDENTITY, 8),
+        Field::UniqueNumber => stretch(UNIQUE_NUMBER, 8),
+        Field::SerialNumber => stretch(SERIAL_NUMBER, 8),
+        Field::BesideIdentities => stretch(BESIDE_IDENTITIES, 24),
+        Field::Selected => stretch(SELECTED, 1),
+        Field::Opcode => stretch(OPCODE, 1),
+        Field::BesideOpcode => stretch(BESIDE_OPCODE, 2),
+        Field::Clocks => stretch(CLOCKS, 4),
+        Field::Address => stretch(ADDRESS, 4),
+        Field::Number => stretch(NUMBER, 4),
+        Field::Value => stretch(VALUE, 8),
+        Field::BesideValue => stretch(BESIDE_VALUE, 40),
+    }
+}
+
 // Where a field begins.
 pub fn offset_of(f: Field) -> usize
     ensures { λ r. ⌜ r ≡ offsetOf f ⌝ }
 {
-    match f {
-        Field::Part => PART,
-        Field::N => N,
-        Field::BesideMake => BESIDE_MAKE,
-        Field::Status => STATUS,
-        Field::AreaProtection => AREA_PROTECTION,
-        Field::Configuration1 => CONFIGURATION_1,
-        Field::Configuration2 => CONFIGURATION_2,
-        Field::Configuration3 => CONFIGURATION_3,
-        Field::Configuration4 => CONFIGURATION_4,
-        Field::ModeRegister => MODE_REGISTER,
-        Field::BusMode => BUS_MODE,
-        Field::Latch => LATCH,
-        Field::Armed => ARMED,
-        Field::Asleep => ASLEEP,
-        Field::Toggle => TOGGLE,
-        Field::DeviceIdentity => DEVICE_IDENTITY,
-        Field::UniqueNumber => UNIQUE_NUMBER,
-        Field::SerialNumber => SERIAL_NUMBER,
-        Field::BesideIdentities => BESIDE_IDENTITIES,
-        Field::Selected => SELECTED,
-        Field::Opcode => OPCODE,
-        Field::BesideOpcode => BESIDE_OPCODE,
-        Field::Clocks => CLOCKS,
-        Field::Address => ADDRESS,
-        Field::Number => NUMBER,
-        Field::Value => VALUE,
-        Field::BesideValue => BESIDE_VALUE,
-    }
+    place_of(f).offset
 }
 
 // How many bytes it has.
 pub fn size_of(f: Field) -> usize
     ensures { λ r. ⌜ r ≡ sizeOf f ⌝ }
 {
-    match f {
-        Field::Part => 1,
-        Field::N => 1,
-        Field::BesideMake => 2,
-        Field::Status => 1,
-        Field::AreaProtection => 1,
-        Field::Configuration1 => 1,
-        Field::Configuration2 => 1,
-        Field::Configuration3 => 1,
-        Field::Configuration4 => 1,
-        Field::ModeRegister => 1,
-        Field::BusMode => 1,
-        Field::Latch => 1,
-        Field::Armed => 1,
-        Field::Asleep => 1,
-        Field::Toggle => 1,
-        Field::DeviceIdentity => 8,
-        Field::UniqueNumber => 8,
-        Field::SerialNumber => 8,
-        Field::BesideIdentities => 24,
-        Field::Selected => 1,
-        Field::Opcode => 1,
-        Field::BesideOpcode => 2,
-        Field::Clocks => 4,
-        Field::Address => 4,
-        Field::Number => 4,
-        Field::Value => 8,
-        Field::BesideValue => 40,
-    }
+    place_of(f).size
 }

@@ -7,7 +7,9 @@ pub mod writes;
 
 pub use fields::Field;
 pub use fields::IMAGE;
+pub use fields::Place;
 pub use fields::offset_of;
+pub use fields::place_of;
 pub use fields::size_of;
 pub use reads::eight_at;
 pub use reads::record_of;
