@@ -1,4 +1,6 @@
 // What a record left, in few characters: the chip, digests, and the driven samples.
+#![tactic(auto)]
+
 use bench_columns::{column, digest_column, five};
 use counts::Counts;
 use record::{Answer, Device, answer_number, is_refusal};

@@ -1,5 +1,7 @@
 // Probes of the device, one after the other on standard input, and for each one line with its answer, its counts, the image that
 // it left, and digests of memory, area and output. The second program prints the same.
+#![tactic(auto)]
+
 use against_input::is_taken;
 use against_probes::{
     Left, Probe, called, image_of, is_called, left_by, no_probe, probe_of, put_line, take_head,
@@ -11,7 +13,7 @@ use parts::LARGEST_MEMORY;
 const OUTPUT: usize = 131072;
 
 // The page so far, and what the next probe may go on from.
-#[derive(Drop)]
+#[derive(Clone, Copy)]
 struct Sequence {
     page: Printed,
     left: Left,

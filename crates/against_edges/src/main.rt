@@ -1,4 +1,6 @@
 // The bench's lines for many tapes in one input: tapes at the edges of what a tape may be.
+#![tactic(auto)]
+
 use against_input::take_tape;
 use bench_play::{play, too_long};
 

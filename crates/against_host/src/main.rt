@@ -1,5 +1,7 @@
 // Requests to the host half, one after the other on standard input, and for each one line with its answer, the number that
 // it tells, and a digest of the whole buffer that was lent. The second program prints the same.
+#![tactic(auto)]
+
 ghost use Rattle.std.specs.Prelude.{◌≡◌, length};
 
 use against_input::is_taken;
@@ -11,7 +13,7 @@ use text::{put, put_decimal};
 use units::Bytes;
 
 // The 24 bytes before a request's data, or that the input ends before them or within them.
-#[derive(Drop)]
+#[derive(Clone, Copy)]
 struct Head {
     last: bool,
     whole: bool,
@@ -20,7 +22,7 @@ struct Head {
 
 // A call of the host half: 1 builds, 2 gathers, on so many wires as `part` says. `room` is the length of the buffer lent,
 // `long` that of the data.
-#[derive(Drop)]
+#[derive(Clone, Copy)]
 struct Request {
     call: u8,
     part: u8,
@@ -34,7 +36,7 @@ struct Request {
 }
 
 // What a call came to.
-#[derive(Drop)]
+#[derive(Clone, Copy)]
 struct Told {
     answer: u8,
     number: usize,

@@ -1,9 +1,11 @@
 // Input of the programs that are held against the second one. Many tapes in one input stand each behind its length in four
 // bytes.
+#![tactic(auto)]
+
 use buffers::number_of;
 
 // Where a tape of the input ends: its number of bytes, or that the input ends before it.
-#[derive(Drop)]
+#[derive(Clone, Copy)]
 pub struct Loaded {
     pub whole: bool,
     pub last: bool,

@@ -1,5 +1,7 @@
 // A probe of the device: read off its 32 bytes, called over the image that comes with it, or over the record that the image's bytes
 // spell, and the line with all that it left. A probe may go on from what the one before it left.
+#![tactic(auto)]
+
 use against_columns::call_columns;
 use bench_columns::digest_column;
 use buffers::number_of;
@@ -10,7 +12,7 @@ use record::{Answer, Device, Outcome};
 use text::{put, put_bytes};
 
 // The 32 bytes before a probe's image and samples, or that the input ends before them or within them.
-#[derive(Drop)]
+#[derive(Clone, Copy)]
 pub struct Head {
     pub last: bool,
     pub whole: bool,
@@ -18,7 +20,7 @@ pub struct Head {
 }
 
 // The lengths of what is lent. Those of a device identity and of a unique number are for a fresh chip.
-#[derive(Drop)]
+#[derive(Clone, Copy)]
 pub struct Lengths {
     pub memory: usize,
     pub area: usize,
@@ -32,7 +34,7 @@ pub struct Lengths {
 // A call of the device. Over a record: 1 is a transaction, 2 a power cycle, 3 opens a transaction, 4 feeds it, 5 closes it. Over
 // an image the same from 11 on. 21, 22 and 23 are fresh chips of part M, P and M32. `on` is 1 where the probe goes on from the one
 // before it. `seed` is where the contents of what is lent begin, `n` that of a fresh chip.
-#[derive(Drop)]
+#[derive(Clone, Copy)]
 pub struct Probe {
     pub call: u8,
     pub on: u8,
@@ -42,7 +44,7 @@ pub struct Probe {
 }
 
 // What a probe leaves to the next one: how long its image is, and how much of memory and area the first of its sequence filled.
-#[derive(Drop)]
+#[derive(Clone, Copy)]
 pub struct Left {
     pub any: bool,
     pub image: usize,
@@ -51,7 +53,7 @@ pub struct Left {
 }
 
 // What is filled before a call.
-#[derive(Drop)]
+#[derive(Clone, Copy)]
 enum Lent {
     Memory,
     Area,
@@ -59,7 +61,7 @@ enum Lent {
 }
 
 // What a call is made over.
-#[derive(Drop)]
+#[derive(Clone, Copy)]
 enum Over {
     Record,
     Image,

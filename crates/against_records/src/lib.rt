@@ -1,4 +1,6 @@
 // One record of a tape, played and printed for the comparison: the line with all that it left.
+#![tactic(auto)]
+
 use against_columns::{call_columns, chip, output_columns};
 use bench_columns::{digest_column, fill};
 use bench_lines::{last_line, verdict};
@@ -10,7 +12,7 @@ use text::{put, put_all};
 // The bytes of output past the samples, which a call is to leave alone.
 pub const SPARE: usize = 3;
 
-#[derive(Drop)]
+#[derive(Clone, Copy)]
 pub struct State {
     pub session: Session,
     pub place: usize,

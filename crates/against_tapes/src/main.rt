@@ -1,5 +1,7 @@
 // Many tapes in one input, each behind its length, and for each record one line with all that it left: the record,
 // digests of memory, area and output, and the driven samples. The second program prints the same.
+#![tactic(auto)]
+
 use against_input::take_tape;
 use against_records::{SPARE, started, turn};
 use bench_columns::{Printed, column, cut};

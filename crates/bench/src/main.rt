@@ -1,4 +1,6 @@
 // The bench: plays a tape and prints one line a record.
+#![tactic(auto)]
+
 use bench_play::{play, too_long};
 
 fn main() {

@@ -1,4 +1,6 @@
 // Columns of the lines that are held against the second program: numbers, and digests of what is too long to print.
+#![tactic(auto)]
+
 ghost use Rattle.std.specs.Prelude.{◌≡◌};
 ghost use Rattle.buffers.specs.Page.{page, puts_of};
 ghost use Rattle.bench_columns.specs.Columns.{column_of, five_of};
@@ -60,7 +62,7 @@ pub fn fill(out: &mut [u8]) {
 }
 
 // The place on the page, and whether to go on.
-#[derive(Drop)]
+#[derive(Clone, Copy)]
 pub struct Printed {
     pub place: usize,
     pub go: bool,

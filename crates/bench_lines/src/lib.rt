@@ -1,4 +1,6 @@
 // The lines that the bench prints, put in a buffer: the header, the line of a record, and the last line.
+#![tactic(auto)]
+
 ghost use Rattle.std.specs.Prelude.{◌≡◌};
 ghost use Rattle.buffers.specs.Page.{page, puts_of};
 ghost use Rattle.bench_lines.specs.Lines.{header_text, line_of, last_line_of, verdict_of};

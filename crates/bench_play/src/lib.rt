@@ -1,11 +1,13 @@
 // The bench's lines for a tape: the header, one line a record, and the verdict.
+#![tactic(auto)]
+
 use bench_lines::{header, last_line, line, verdict};
 use parts::LARGEST_AREA;
 use tape::LARGEST_MEMORY;
 use tape_session::Session;
 
 // What goes from record to record: the session, the place in the text, and whether to go on.
-#[derive(Drop)]
+#[derive(Clone, Copy)]
 struct State {
     session: Session,
     place: usize,

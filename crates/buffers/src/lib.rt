@@ -1,5 +1,7 @@
 // Bytes gathered in a lent buffer: they are put at a place, and the place behind them comes back. What finds no room
 // is left out, and the place stays.
+#![tactic(auto)]
+
 ghost use Rattle.std.specs.Prelude.{◌≡◌, ◌+◌, ◌*◌};
 ghost use Rattle.buffers.specs.Page.{page, put_of, puts_of};
 

@@ -1,5 +1,7 @@
 // The C host's calls. What C lends comes as a pointer and a length; a length that is not due is answered, and nothing
 // behind the pointer is then read or written but the counts, which are 0. `include/tondravik.h` says what C must ensure.
+#![tactic(auto)]
+
 ghost use Rattle.std.specs.Prelude.{◌≡◌, []};
 ghost use Rattle.units.specs.Units.{bytes};
 ghost use Rattle.contract_words.specs.Words.{lends};

@@ -1,5 +1,7 @@
 // What a transaction leaves of a record: what a command does when it is done, what an answer leaves, and the rules of the
 // write latch.
+#![tactic(auto)]
+
 ghost use Rattle.std.specs.Prelude.{◌≡◌};
 ghost use Rattle.changes.specs.Latches.{kind_needs, latch_needed, latch_missing, after_burst};
 ghost use Rattle.changes.specs.Changes.{controlled, written_to, burst_done, register_done, write_done, effect_of, declined_to, settled_of};

@@ -8,7 +8,7 @@ use parts::Part;
 use units::{Bytes, Clocks, Wires};
 
 // What the address of a command names, if it has one.
-#[derive(Drop)]
+#[derive(Clone, Copy)]
 pub enum Address {
     Absent,
     InMemory,
@@ -19,7 +19,7 @@ pub enum Address {
 }
 
 // The data of a command: none, so many bytes, or as many as are clocked.
-#[derive(Drop)]
+#[derive(Clone, Copy)]
 pub enum Body {
     Nothing,
     FixedRead(Bytes),

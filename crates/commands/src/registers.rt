@@ -40,7 +40,7 @@ pub fn size_of(r: Register) -> Bytes
 }
 
 // What 65h finds at an address.
-#[derive(Drop)]
+#[derive(Clone, Copy)]
 pub enum Mapped {
     At(Register),
     Nowhere,

@@ -1,11 +1,13 @@
 // The five clock counts that every answer carries, in the papers' order.
+#![tactic(auto)]
+
 ghost use Rattle.std.specs.Prelude.{◌≡◌, ◌<◌, ◌≤◌};
 ghost use Rattle.counts.specs.Counts.{no_counts, total, command_tick, address_tick, wait_tick, body_tick, rest_tick};
 
 use units::Clocks;
 
 // `body` counts the data clocks.
-#[derive(Drop)]
+#[derive(Clone, Copy)]
 pub struct Counts {
     pub command: Clocks,
     pub address: Clocks,

@@ -1,4 +1,6 @@
 // The device: a transaction, whole or fed in chunks, and a power cycle, each behind its checks. Nothing is asked of the caller.
+#![tactic(auto)]
+
 ghost use Rattle.std.specs.Prelude.{◌≡◌, [], length, replicate};
 ghost use Rattle.paper.specs.Transaction.{transact_of, power_of};
 ghost use Rattle.machine_chunks.specs.Chunks.{open_of, feed_of, close_of};

@@ -1,5 +1,7 @@
 // The checks before a call of the device, in their order: for each of the two lists a function that tells the answer of the first
 // check that fails, and 0 where all are passed. Nothing is asked of the caller.
+#![tactic(auto)]
+
 ghost use Rattle.std.specs.Prelude.{◌≡◌, [], ◌∷◌, ◌≤◌};
 ghost use Rattle.basis.specs.Decisions.{first_of};
 ghost use Rattle.record.specs.declared.answers.Answer.TheVariants.{Done};

@@ -1,4 +1,6 @@
 // Words as a person writes them: numbers, and bytes as pairs of hexadecimal digits.
+#![tactic(auto)]
+
 ghost use Rattle.std.specs.Prelude.{◌≡◌};
 ghost use Rattle.buffers.specs.Page.{page, puts_of};
 ghost use Rattle.digits.specs.Digits.{digit_of, none, number_of, pair_of, pairs_of, is_paired};
@@ -6,7 +8,7 @@ ghost use Rattle.digits.specs.Digits.{digit_of, none, number_of, pair_of, pairs_
 use buffers::put;
 
 // The number that a word is, or that it is none.
-#[derive(Drop)]
+#[derive(Clone, Copy)]
 pub struct Number {
     pub good: bool,
     pub value: u32,

@@ -1,5 +1,7 @@
 // Builds one command from words, `drive P 0B 4 000123 --read 4`, and shows its samples, its clocks and its bytes, or
 // writes it as a record of a tape. What cannot be built is told on standard error (D43).
+#![tactic(auto)]
+
 use drive_arguments::{Asked, ended, is_whole, not_so, nothing_asked, take_word};
 use drive_rows::show;
 use drive_texts::{put_long, put_refusal, put_wrong};
@@ -12,7 +14,7 @@ use units::{Bytes, Clocks};
 const MOST_SAMPLES: usize = 4096;
 
 // What was asked, and the length of the last word.
-#[derive(Drop)]
+#[derive(Clone, Copy)]
 struct Heard {
     asked: Asked,
     long: usize,

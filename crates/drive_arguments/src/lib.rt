@@ -1,5 +1,7 @@
 // The words of a command as a driver engineer writes them, `P 0B 4 000123 --read 4`: part, opcode, mode and address,
 // and then options in any order (D39).
+#![tactic(auto)]
+
 use digits::{Number, is_paired, number_in, put_pairs};
 use parts::{PartM, PartM32, PartP};
 use text::is_same;
@@ -7,7 +9,7 @@ use text::is_same;
 // What was asked so far. `due` is the number of the word that comes next: 1 to 4 for part, opcode, mode and address,
 // 5 for an option, 6 to 9 for what --read, --write, --wait and --fresh take. `wrong` says that the last word was not what
 // was due. `written` is how many bytes --write has; `fresh` is 0 where there is no --fresh.
-#[derive(Drop)]
+#[derive(Clone, Copy)]
 pub struct Asked {
     pub part: u8,
     pub opcode: u8,

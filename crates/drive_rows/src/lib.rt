@@ -1,4 +1,6 @@
 // A command that was built, for people: the same rows as a tape's list has, and the samples by phase (D42).
+#![tactic(auto)]
+
 use commands::plans::{Body, address_of, later_wires, wait_of};
 use counts::Counts;
 use host_order::{Order, body_asked, kind_asked};

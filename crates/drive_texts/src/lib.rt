@@ -1,4 +1,6 @@
 // What is said of a command that cannot be built: a word that is wrong or missing, and each refusal.
+#![tactic(auto)]
+
 use commands::plans::Body;
 use drive_arguments::Asked;
 use host_order::{Order, body_asked, kind_asked};

@@ -1,4 +1,6 @@
 // The host half: a command becomes samples, and what the device drives becomes bytes. Nothing is asked of the caller.
+#![tactic(auto)]
+
 ghost use Rattle.std.specs.Prelude.{◌≡◌};
 ghost use Rattle.paper.specs.Building.{build_of};
 ghost use Rattle.paper.specs.Collecting.{collect_of};
@@ -12,14 +14,14 @@ use record::{Answer, is_done, mode_wires};
 use units::{Bytes, Clocks};
 
 // What is built: the answer, and how many samples there are.
-#[derive(Drop)]
+#[derive(Clone, Copy)]
 pub struct Built {
     pub answer: Answer,
     pub clocks: Clocks,
 }
 
 // What is gathered: the answer, and how many bytes there are.
-#[derive(Drop)]
+#[derive(Clone, Copy)]
 pub struct Gathered {
     pub answer: Answer,
     pub bytes: Bytes,

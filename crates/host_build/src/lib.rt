@@ -1,4 +1,6 @@
 // A command as samples, and what of it is refused: the rows of the host's table, and the phases one after the other.
+#![tactic(auto)]
+
 ghost use Rattle.std.specs.Prelude.{◌≡◌, ◌||◌};
 ghost use Rattle.units.specs.Units.{fewer, longest};
 ghost use Rattle.buffers.specs.Page.{page, puts_of};

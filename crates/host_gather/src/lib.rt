@@ -1,4 +1,6 @@
 // Bytes from what the device drives: which samples it never drives, how many bytes the others make, and the bytes.
+#![tactic(auto)]
+
 ghost use Rattle.std.specs.Prelude.{◌≡◌};
 ghost use Rattle.buffers.specs.Page.{page, put_of, puts_of};
 ghost use Rattle.paper.specs.Building.{many_bytes};

@@ -1,5 +1,7 @@
 // What the host is asked to build, and what of it is refused: each row of the host's table but the last, which looks
 // at the samples.
+#![tactic(auto)]
+
 ghost use Rattle.std.specs.Prelude.{◌≡◌, ◌||◌, []};
 ghost use Rattle.units.specs.Units.{bytes, fewer_bytes};
 ghost use Rattle.paper.specs.Building.{asked, addressed, beyond, overlong, too_few, too_many, kind_asked, body_asked};
@@ -17,7 +19,7 @@ const MOST_OF_REGISTER: usize = 8;
 
 // A command in numbers: any values at all. `wanted` is the number of bytes to read; what is to be written is lent
 // beside it.
-#[derive(Drop)]
+#[derive(Clone, Copy)]
 pub struct Order {
     pub part: u8,
     pub opcode: u8,

@@ -1,6 +1,8 @@
 // What the host sends, clock by clock: numbers on so many wires, high bits first, and silent clocks. A sample is sent in
 // each clock, so a place in the buffer is the number of clocks before it. Samples are put at a place, and the place
 // behind them comes back.
+#![tactic(auto)]
+
 ghost use Rattle.std.specs.Prelude.{◌≡◌};
 ghost use Rattle.units.specs.Units.{clocks_of, byte_clocks};
 ghost use Rattle.wires.specs.Bits.{above, spread};

@@ -60,7 +60,7 @@ pub const VALUE: usize = 80;
 pub const BESIDE_VALUE: usize = 88;
 
 // A field of the image. Those named `Beside..` are spare: all 0, where the record may grow.
-#[derive(Drop)]
+#[derive(Clone, Copy)]
 pub enum Field {
     Part,
     N,
@@ -92,7 +92,7 @@ pub enum Field {
 }
 
 // Where a field begins, and how many bytes it has.
-#[derive(Drop)]
+#[derive(Clone, Copy)]
 pub struct Place {
     pub offset: usize,
     pub size: usize,

@@ -1,6 +1,8 @@
 // The calls of the device over an image: each does what it does over the record that the image stands for, and leaves the image
 // of the next record. 3 comes before all other checks: bytes that are no valid record's image are not looked at further, and
 // nothing changes. Nothing is asked of the caller.
+#![tactic(auto)]
+
 ghost use Rattle.std.specs.Prelude.{◌≡◌, [], length};
 ghost use Rattle.parts.specs.declared.Family.TheVariants.{Mram};
 ghost use Rattle.parts.specs.Parts.{family_of};
@@ -16,7 +18,7 @@ use parts::{Part, PartP, is_offered};
 use record::{Answer, Device, Make, Outcome};
 
 // What a call over an image replies: the answer and the five counts. The next record stands in the image.
-#[derive(Drop)]
+#[derive(Clone, Copy)]
 pub struct Reply {
     pub answer: Answer,
     pub counts: Counts,

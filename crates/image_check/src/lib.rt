@@ -1,4 +1,6 @@
 // Whether bytes are the image of a valid record, an open transaction included: what every call over an image asks first.
+#![tactic(auto)]
+
 ghost use Rattle.std.specs.Prelude.{◌≡◌};
 ghost use Rattle.image_check.specs.Accepted.{valid_record, accepted};
 

@@ -1,10 +1,12 @@
 // Prints the table of docs/IMAGE.md, and the same offsets as lines of C, for include/tondravik.h: from the code that is proved
 // equal to the table of the definitions.
+#![tactic(auto)]
+
 use image::{Field, IMAGE, offset_of, size_of};
 use text::{flush, put_all, put_decimal};
 
 // Which of the two is printed.
-#[derive(Drop)]
+#[derive(Clone, Copy)]
 enum Form {
     Page,
     Header,

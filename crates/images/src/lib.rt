@@ -1,1 +1,2 @@
 // What holds of images from call to call: theorems, no code.
+#![tactic(auto)]

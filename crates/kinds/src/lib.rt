@@ -1,9 +1,11 @@
 // What a command does, and what it reads or writes: the types, and nothing of opcodes.
+#![tactic(auto)]
+
 ghost use Rattle.std.specs.Prelude.{◌≡◌};
 ghost use Rattle.kinds.specs.Tests.{unknown};
 
 // A command without data.
-#[derive(Drop)]
+#[derive(Clone, Copy)]
 pub enum Control {
     NoOperation,
     WriteEnable,
@@ -20,7 +22,7 @@ pub enum Control {
 
 // What a register command reads or writes. `Configurations` is all four together; `LongIdentity` is the
 // eight bytes of the PSRAM.
-#[derive(Drop)]
+#[derive(Clone, Copy)]
 pub enum Register {
     Status,
     AreaProtection,
@@ -37,7 +39,7 @@ pub enum Register {
 }
 
 // How a memory read is clocked, and a memory write.
-#[derive(Drop)]
+#[derive(Clone, Copy)]
 pub enum ReadForm {
     Plain,
     Fast,
@@ -45,7 +47,7 @@ pub enum ReadForm {
     Wrapped,
 }
 
-#[derive(Drop)]
+#[derive(Clone, Copy)]
 pub enum WriteForm {
     Plain,
     Quad,
@@ -53,7 +55,7 @@ pub enum WriteForm {
 
 // What a command reads. The PSRAM's mode register and its identity are read with an address, so they stand
 // apart from the registers without one; `Map` is the register that an address names (D58).
-#[derive(Drop)]
+#[derive(Clone, Copy)]
 pub enum Source {
     Register(Register),
     Map,
@@ -64,7 +66,7 @@ pub enum Source {
 }
 
 // What a command writes.
-#[derive(Drop)]
+#[derive(Clone, Copy)]
 pub enum Target {
     Register(Register),
     Mode,
@@ -73,7 +75,7 @@ pub enum Target {
 }
 
 // What a command does, in four cases (D58).
-#[derive(Drop)]
+#[derive(Clone, Copy)]
 pub enum Kind {
     Unknown,
     Plain(Control),

@@ -1,4 +1,6 @@
 // The answer of a record, by number and name, and the rule that decides it.
+#![tactic(auto)]
+
 use commands::plans::{Address, address_of};
 use kinds::{Kind, Target};
 use list_views::{View, byte_at, first_above, is_addressed, sum};

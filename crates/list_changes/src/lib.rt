@@ -1,4 +1,6 @@
 // What a record changed: registers, volatile state, memory and area, each with what was there before.
+#![tactic(auto)]
+
 use list_names::put_wires;
 use list_rows::put_eight;
 use list_views::byte_at;
@@ -114,7 +116,7 @@ pub fn put_device(page: &mut [u8], at: usize, old: Device, new: Device) -> usize
 
 // How far the lines on changed bytes are: the place on the page, how many bytes changed so far, and the last
 // of them.
-#[derive(Drop)]
+#[derive(Clone, Copy)]
 struct Tally {
     to: usize,
     count: u64,

@@ -1,4 +1,6 @@
 // The rows on the clocks of a transaction: the bus, the five counts, and the data.
+#![tactic(auto)]
+
 use counts::Counts;
 use kinds::Kind;
 use list_names::{put_kind, put_part, put_wires};

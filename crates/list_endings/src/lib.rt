@@ -1,4 +1,6 @@
 // The end of the list.
+#![tactic(auto)]
+
 use list_rows::{excess, put_bytes};
 use tape::{Entry, Fault};
 use text::{put_all, put_decimal, put_word};

@@ -1,5 +1,7 @@
 // Names for people: parts, wires, commands. A match gives the name's number in a list, since an arm that puts text is
 // dear to prove.
+#![tactic(auto)]
+
 use kinds::{Control, Kind, ReadForm, Register, Source, Target, WriteForm};
 use parts::Part;
 use text::put_word;

@@ -1,4 +1,6 @@
 // The paragraph of a record: what it is, its clocks and data, what it changed, and its answer.
+#![tactic(auto)]
+
 use counts::Counts;
 use list_answers::{put_answer, put_rule};
 use list_changes::{following, put_device, put_places};

@@ -1,4 +1,6 @@
 // Rows of a paragraph: numbers with their units, and bytes in hexadecimal, folded.
+#![tactic(auto)]
+
 use list_views::byte_at;
 use text::{put, put_all, put_decimal, put_hex};
 use units::{Bytes, Clocks};

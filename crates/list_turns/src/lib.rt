@@ -1,4 +1,6 @@
 // One record of a tape for people: played, and its paragraph put on the page.
+#![tactic(auto)]
+
 use list_endings::put_last;
 use list_paragraphs::{put_head, put_played};
 use tape_session::{Session, Turn};
@@ -6,7 +8,7 @@ use text::put_all;
 use units::Bytes;
 
 // What goes from record to record: the session, the place on the page, and whether to go on.
-#[derive(Drop)]
+#[derive(Clone, Copy)]
 pub struct State {
     pub session: Session,
     pub to: usize,

@@ -1,4 +1,6 @@
 // What the clocks of a transaction say, read again from its samples for the page.
+#![tactic(auto)]
+
 use counts::Counts;
 use kinds::Kind;
 use record::{Device, Setting};
@@ -7,7 +9,7 @@ use units::{Bytes, Clocks, Wires};
 
 // The chip before the transaction; whether all command bits came, the opcode and its kind; the wires of all
 // that follows the command; whether all address bits came, and the address.
-#[derive(Drop)]
+#[derive(Clone, Copy)]
 pub struct View {
     pub setting: Setting,
     pub whole: bool,

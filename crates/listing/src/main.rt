@@ -1,5 +1,7 @@
 // A tape for people: a paragraph for each record, with what it asks for, its clocks, its data, what it changed,
 // and why it is answered so.
+#![tactic(auto)]
+
 use list_turns::{start, turn};
 use parts::LARGEST_AREA;
 use tape::LARGEST_MEMORY;

@@ -1,6 +1,8 @@
 // One byte of a burst: stored where it lies, or read and driven; and how many of a burst lie at protected places.
 //
 // The number of the byte is below 65,536 and the memory no larger than an address reaches, as in `places`.
+#![tactic(auto)]
+
 ghost use Rattle.std.specs.Prelude.{◌≡◌, ◌≤◌, get_or, set};
 ghost use Rattle.contract_words.specs.Words.{lends};
 ghost use Rattle.paper.specs.Storing.{into_area, protected_at, put_at, shut_among};

@@ -1,5 +1,7 @@
 // An open transaction, taken up where its clocks have come to and put down again: the record holds its facts, and the machine
 // goes on from what follows from them.
+#![tactic(auto)]
+
 ghost use Rattle.std.specs.Prelude.{◌≡◌, ◌+◌, ◌≤◌, length};
 ghost use Rattle.wires.specs.Bits.{gather_from};
 ghost use Rattle.counts.specs.Counts.{total};

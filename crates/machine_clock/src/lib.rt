@@ -1,4 +1,6 @@
 // The data phase, and a transaction fed clock by clock: what each clock drives, and what it leaves.
+#![tactic(auto)]
+
 ghost use Rattle.std.specs.Prelude.{◌≡◌, cond, ◌<◌, ◌≤◌, set};
 ghost use Rattle.counts.specs.Counts.{total};
 ghost use Rattle.paper.specs.InForce.{wires_for};
@@ -15,7 +17,7 @@ use record::{Aim, Device};
 use units::{Bytes, Clocks, Wires};
 
 // In the middle of a byte: the number gathered of it, and the bytes of a register write so far.
-#[derive(Drop)]
+#[derive(Clone, Copy)]
 pub struct Holding {
     pub number: u32,
     pub value: [u8; 8],

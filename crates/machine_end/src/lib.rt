@@ -1,4 +1,6 @@
 // The answer of a transaction, judged at its end by the papers' table, and the record that it leaves.
+#![tactic(auto)]
+
 ghost use Rattle.std.specs.Prelude.{◌≡◌, ◌≤◌};
 ghost use Rattle.basis.specs.Decisions.{first_of};
 ghost use Rattle.counts.specs.Counts.{total};

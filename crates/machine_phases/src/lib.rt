@@ -1,6 +1,8 @@
 // A transaction, clock by clock: one small function for each phase but the data, over a progress by value.
 //
 // The counts are below 65,535 before a clock is taken, as no transaction has more clocks than that.
+#![tactic(auto)]
+
 ghost use Rattle.std.specs.Prelude.{◌≡◌, ◌<◌, ◌≤◌};
 ghost use Rattle.counts.specs.Counts.{total};
 ghost use Rattle.machine_phases.specs.Machine.{terms_of, full_at, to_data, to_wait, to_address, command_step, address_step, wait_step, rest_step};
@@ -13,7 +15,7 @@ use record::{Device, Setting};
 use units::{Clocks, Wires};
 
 // What a transaction runs under: the setting, and the latch, which may hold its storing back.
-#[derive(Drop)]
+#[derive(Clone, Copy)]
 pub struct Terms {
     pub setting: Setting,
     pub latch: bool,

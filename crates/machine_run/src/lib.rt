@@ -1,5 +1,7 @@
 // A stretch of clocks fed to an unfinished transaction: what each drives goes to the output, and what they
 // leave comes back.
+#![tactic(auto)]
+
 ghost use Rattle.std.specs.Prelude.{◌+◌};
 ghost use Rattle.contract_words.specs.Words.{run_as};
 ghost use Rattle.machine_run.specs.Fed.{Feedable, Fed};

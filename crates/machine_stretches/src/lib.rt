@@ -1,5 +1,7 @@
 // A transaction's samples parted by phase: each phase's clocks are handed on as a part of the slices, and the
 // data phase is the part in the middle.
+#![tactic(auto)]
+
 ghost use Rattle.std.specs.Prelude.{◌≡◌, ◌≤◌};
 ghost use Rattle.progress.specs.Progress.{begin_of};
 ghost use Rattle.contract_words.specs.Words.{lends, run_as, world_of};

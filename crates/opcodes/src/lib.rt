@@ -1,4 +1,6 @@
 // The decision over the opcode byte: the kind of a command for family and bus mode.
+#![tactic(auto)]
+
 ghost use Rattle.std.specs.Prelude.{◌≡◌};
 ghost use Rattle.opcodes.specs.Opcodes.{row_of, in_modes, kind_in, kind_of};
 
@@ -7,7 +9,7 @@ use parts::Family;
 use units::Wires;
 
 // The bus modes, by their number of wires, in which a family has an opcode.
-#[derive(Drop)]
+#[derive(Clone, Copy)]
 pub enum Modes {
     Never,
     One,
@@ -19,7 +21,7 @@ pub enum Modes {
 }
 
 // What an opcode is on the MRAM and on the PSRAM, and in which bus modes.
-#[derive(Drop)]
+#[derive(Clone, Copy)]
 pub struct Row {
     pub mram: Kind,
     pub mram_modes: Modes,

@@ -2,6 +2,8 @@
 // `pace read 4 65535 200 10` clocks a read of 65,535 clocks on four wires 200 times on a chip of n = 10, `pace read 4 65535 200 10
 // 16` does so in chunks of 16 clocks, and `pace gather 4 65535 200` gathers so many driven samples. One line tells the clocks of all calls that were answered 0, and digests of what
 // the last one left. The second program prints the same.
+#![tactic(auto)]
+
 use bench_columns::digest_column;
 use digits::number_in;
 use pace_calls::{Asked, build, chip, clocked_all, fill, gathered_all, total};

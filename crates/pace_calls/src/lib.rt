@@ -1,4 +1,6 @@
 // The calls that are measured: the chip, the command and its samples, and the same call over and over.
+#![tactic(auto)]
+
 ghost use Rattle.std.specs.Prelude.{◌<◌, ◌≤◌};
 
 use host_order::Order;
@@ -7,7 +9,7 @@ use record::{Device, Make, is_done, mode_wires};
 use units::{Bytes, Clocks, bytes_to_clocks, clocks_to_bytes};
 
 // What is asked: 1 reads, 2 writes, 3 gathers, and 0 is none of them. `chunk` is the clocks of a chunk, and 0 for one call.
-#[derive(Drop)]
+#[derive(Clone, Copy)]
 pub struct Asked {
     pub what: u8,
     pub wires: u8,

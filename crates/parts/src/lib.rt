@@ -1,5 +1,7 @@
 // What tells one part from another: the parts and their limits, and the lengths and shares that their
 // registers choose.
+#![tactic(auto)]
+
 ghost use Rattle.std.specs.Prelude.{◌≡◌};
 ghost use Rattle.parts.specs.Parts.{part_of, known_part, part_number, family_of, least_of, most_of, offered, area_of, section_of, wrap_codes};
 ghost use Rattle.parts.specs.Lengths.{wrap_length, group_length, share_of};
@@ -8,7 +10,7 @@ use units::Bytes;
 
 // Part M, the serial MRAM. Its memories of 2^17, 2^19, 2^20 and 2^21 bytes are sold; the smaller ones are
 // the bench's. Its limits and fresh registers are constants of its type (D36).
-#[derive(Drop)]
+#[derive(Clone, Copy)]
 pub struct PartM;
 
 impl PartM {
@@ -30,7 +32,7 @@ impl PartM {
 }
 
 // Part P, the serial PSRAM. It has no augmented area.
-#[derive(Drop)]
+#[derive(Clone, Copy)]
 pub struct PartP;
 
 impl PartP {
@@ -50,7 +52,7 @@ impl PartP {
 }
 
 // Part M32, the serial MRAM of 32 Mbit. Of its memories that of 2^22 bytes is sold. Its fresh registers are those of part M.
-#[derive(Drop)]
+#[derive(Clone, Copy)]
 pub struct PartM32;
 
 impl PartM32 {
@@ -77,14 +79,14 @@ pub const LARGEST_MEMORY: usize = 4194304;
 pub const LARGEST_AREA: usize = 512;
 
 // Rules go by the family: commands, latch, protection, groups, reset and power (D57).
-#[derive(Drop)]
+#[derive(Clone, Copy)]
 pub enum Family {
     Mram,
     Psram,
 }
 
 // Limits go by the part: n, the area and its sections, the codes of groups, the register map, fresh registers (D57).
-#[derive(Drop)]
+#[derive(Clone, Copy)]
 pub enum Part {
     M,
     P,

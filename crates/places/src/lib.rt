@@ -4,6 +4,8 @@
 // A byte takes at least two clocks, so the 65,535 clocks of a transaction carry fewer bytes than that; and
 // no memory is larger than an address of 24 bits reaches. The `requires` below ask for both, and the checks
 // of sizes have seen to them before anything comes here.
+#![tactic(auto)]
+
 ghost use Rattle.std.specs.Prelude.{◌≡◌, ◌+◌, ◌<◌, ◌≤◌};
 ghost use Rattle.places.specs.Addresses.{memory_size, is_mapped, memory_allowed, allowed_of};
 ghost use Rattle.places.specs.Places.{group_in_force, wrap_in_force, read_span, write_span, place_in, read_place, write_place, area_place};

@@ -1,5 +1,7 @@
 // The plan in force: how many clocks each phase of a transaction has, and what its data is, once it is known
 // whether the command is answered at all.
+#![tactic(auto)]
+
 ghost use Rattle.std.specs.Prelude.{◌≡◌, ◌≤◌};
 ghost use Rattle.paper.specs.Reading.{data_of};
 ghost use Rattle.paper.specs.InForce.{wakes, asleep_for, refused_at, stopped, decided, address_length, command_clocks, wires_for, address_clocks, wait_clocks, body_for};

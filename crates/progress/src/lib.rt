@@ -1,11 +1,13 @@
 // What is known of an unfinished transaction. It stands below the device record, so that a record can hold it.
+#![tactic(auto)]
+
 ghost use Rattle.std.specs.Prelude.{◌≡◌};
 ghost use Rattle.progress.specs.Progress.{nothing_yet, counting, entered, onward, begin_of};
 
 use counts::Counts;
 use kinds::Kind;
 
-#[derive(Drop)]
+#[derive(Clone, Copy)]
 pub enum Phase {
     Command,
     Address,
@@ -15,14 +17,14 @@ pub enum Phase {
 }
 
 // What the clocks so far come to: their counts, and the eight places of a register write (D59).
-#[derive(Drop)]
+#[derive(Clone, Copy)]
 pub struct Tally {
     pub counts: Counts,
     pub value: [u8; 8],
 }
 
 // The phase, the kind of command and the address once they are whole, the number being gathered, and the tally.
-#[derive(Drop)]
+#[derive(Clone, Copy)]
 pub struct Progress {
     pub phase: Phase,
     pub kind: Kind,

@@ -3,7 +3,7 @@ ghost use Rattle.std.specs.Prelude.{◌≡◌};
 ghost use Rattle.record.specs.Answers.{answer_number, class_of, is_done, refuses, is_protected};
 
 // What a call is answered. `answer_number` has the papers' numbers.
-#[derive(Drop)]
+#[derive(Clone, Copy)]
 pub enum Answer {
     Done,
     Size,
@@ -44,7 +44,7 @@ pub fn answer_number(a: Answer) -> u8
 
 // What became of a call: it was done, it was refused and nothing was clocked, or the device declined what was
 // clocked (D53).
-#[derive(Drop)]
+#[derive(Clone, Copy)]
 pub enum Class {
     Done,
     Refused,

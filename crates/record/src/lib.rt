@@ -2,6 +2,8 @@
 //
 // A record is plain data and may hold any numbers at all; whether they are those of a chip is a check of
 // its own. What changes a record takes it and returns the next. There is a file for each matter (D72).
+#![tactic(auto)]
+
 pub mod answers;
 pub mod devices;
 pub mod fields;

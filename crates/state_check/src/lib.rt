@@ -2,6 +2,8 @@
 //
 // The rule of a register's values is stated once: a write of another value is answered 10, a record that
 // holds one is answered 3.
+#![tactic(auto)]
+
 ghost use Rattle.std.specs.Prelude.{◌≡◌, drop};
 ghost use Rattle.state_check.specs.Values.{status_allowed, cr3_allowed, cr4_allowed, configurations_allowed, mode_register_allowed, reserved_of};
 ghost use Rattle.state_check.specs.States.{mode_allowed, zeros, mram_registers, psram_registers, mram_volatile, psram_volatile, mram_identity, psram_identity, mram_valid, psram_valid, in_range};

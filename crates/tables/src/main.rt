@@ -1,5 +1,7 @@
 // Prints the tables of docs/MODEL.md from the code that is proved equal to the definitions: the limits of the parts, the
 // commands of each family, the register maps, and the lengths and shares by register value. A row is a function of its own.
+#![tactic(auto)]
+
 use commands::plans::{Address, Body, address_of, body_of, later_wires, wait_of};
 use commands::registers::{Mapped, register_at};
 use kinds::{Kind, Source, is_unknown};

@@ -1,6 +1,8 @@
 // The bench tape: what stands at a place of it, and what a record does to the chip in the socket.
 //
 // A record is a payload length and a kind, two bytes each with the low byte first, and then the payload.
+#![tactic(auto)]
+
 ghost use Rattle.std.specs.Prelude.{◌≡◌, ◌+◌, ◌<◌, length};
 ghost use Rattle.contract_words.specs.Words.{lends, world_of};
 ghost use Rattle.tape.specs.Tape.{word_at, fresh_entry, entry_for, nothing_but, found_of};
@@ -35,7 +37,7 @@ const FRESH: usize = 3;
 
 // What is wrong with a bad record: it is cut short, it is of a kind that there is not, or its payload is not one of its
 // kind, which is a transaction's, a power cycle's or a fresh chip's (D51).
-#[derive(Drop)]
+#[derive(Clone, Copy)]
 pub enum Fault {
     Cut,
     Strange,
@@ -45,7 +47,7 @@ pub enum Fault {
 }
 
 // What a record asks for.
-#[derive(Drop)]
+#[derive(Clone, Copy)]
 pub enum Entry {
     End,
     Bad(Fault),
@@ -56,7 +58,7 @@ pub enum Entry {
 
 // What stands at a place: the record, where its payload begins, and where the next record does. Both are 0
 // where there is no whole record.
-#[derive(Drop)]
+#[derive(Clone, Copy)]
 pub struct Found {
     pub entry: Entry,
     pub from: usize,
@@ -148,7 +150,7 @@ pub fn entry_at(tape: &[u8], at: usize) -> Found
 }
 
 // The bytes that a chip has.
-#[derive(Drop)]
+#[derive(Clone, Copy)]
 pub struct Socket {
     pub memory: Bytes,
     pub area: Bytes,

@@ -1,4 +1,5 @@
 // Where a program takes its tape from: the file that its first argument names, or standard input where there is none (D27).
+#![tactic(auto)]
 
 // The input's number, below 0 where it cannot be opened, which is told on standard error.
 pub fn opened() -> i32 {

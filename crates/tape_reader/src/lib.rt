@@ -1,11 +1,13 @@
 // A place on a tape that is lent, tape and all, and what is found there. The work is `tape::entry_at`'s, which takes a plain slice
 // and a number (D37).
+#![tactic(auto)]
+
 ghost use Rattle.std.specs.Prelude.{◌≡◌};
 ghost use Rattle.tape.specs.Tape.{found_of};
 
 use tape::Found;
 
-#[derive(Drop)]
+#[derive(Clone, Copy)]
 pub struct Reader<'a> {
     pub tape: &'a [u8],
     pub at: usize,

@@ -1,4 +1,6 @@
 // A tape played record by record: the place on it, and the chip in the socket.
+#![tactic(auto)]
+
 ghost use Rattle.std.specs.Prelude.{◌≡◌};
 ghost use Rattle.contract_words.specs.Words.{lends};
 ghost use Rattle.tape_session.specs.Session.{started, bytes_for, idle_of, turned_of, turn_of};
@@ -10,7 +12,7 @@ use tape_reader::found_at;
 use units::Bytes;
 
 // `chip` says whether there is a chip in the socket, and `socket` how many bytes of memory and area it has.
-#[derive(Drop)]
+#[derive(Clone, Copy)]
 pub struct Session {
     pub at: usize,
     pub chip: bool,
@@ -19,7 +21,7 @@ pub struct Session {
 }
 
 // What a record came to: whether it could be played, what it was, what it answered, and where the session is then.
-#[derive(Drop)]
+#[derive(Clone, Copy)]
 pub struct Turn {
     pub good: bool,
     pub entry: Entry,

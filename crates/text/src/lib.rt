@@ -1,5 +1,7 @@
 // Text gathered in a lent buffer before it is written out: bytes are put at a place, and the place behind them
 // comes back. What finds no room is left out, and the place stays.
+#![tactic(auto)]
+
 ghost use Rattle.std.specs.Prelude.{◌≡◌, map};
 ghost use Rattle.buffers.specs.Page.{page, puts_of};
 ghost use Rattle.text.specs.Decimal.{decimal_of};

@@ -1,5 +1,7 @@
 // What the facts of an open transaction tell, and whether some clocks reach them: a handful of comparisons, however many
 // clocks have come.
+#![tactic(auto)]
+
 ghost use Rattle.std.specs.Prelude.{◌≡◌, ◌≤◌};
 ghost use Rattle.units.specs.Units.{clocks};
 ghost use Rattle.paper.specs.Underway.{kind_at, counts_at, spelling, begun_in, kept_in, number_reached, reached, factless, underway_valid, valid_of};

@@ -7,19 +7,21 @@
 // The numbers inside are private. A quantity comes from a slice, by its length, or from a number that a table,
 // a register or a caller states in that unit; it goes out as an index or a length; and each of these doors has
 // the unit in its name. All else, sums and comparisons, is done here, with both sides in one unit (D64).
+#![tactic(auto)]
+
 ghost use Rattle.std.specs.Prelude.{◌≡◌, ◌+◌, ◌≤◌, ◌<◌, length};
 ghost use Rattle.units.specs.Units.{clocks, bytes, next, next_byte, plus, less, up_to, fewer, at_most, fewer_bytes, at_most_bytes, same_bytes, longest, wires_of, per_byte, clocks_of, clocks_within, whole_of, unfinished_of, byte_clocks, coming_of, bits_in};
 
 // A number of clocks (D18).
-#[derive(Drop)]
+#[derive(Clone, Copy)]
 pub struct Clocks(usize);
 
 // A number of bytes (D18).
-#[derive(Drop)]
+#[derive(Clone, Copy)]
 pub struct Bytes(usize);
 
 // The wires that carry data in a phase.
-#[derive(Drop)]
+#[derive(Clone, Copy)]
 pub enum Wires {
     One,
     Two,

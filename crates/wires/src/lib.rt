@@ -1,4 +1,6 @@
 // What one clock carries, in and out, on one, two or four wires.
+#![tactic(auto)]
+
 ghost use Rattle.std.specs.Prelude.{◌≡◌, ◌+◌, ◌*◌, ◌^◌};
 ghost use Rattle.units.specs.Units.{wires_of};
 ghost use Rattle.wires.specs.Bits.{bits_of, shift_of, fits_in, group_of};

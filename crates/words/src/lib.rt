@@ -1,4 +1,6 @@
 // Numbers in words that C lends: so many as are due, or none is written.
+#![tactic(auto)]
+
 ghost use Rattle.std.specs.Prelude.{◌≡◌};
 ghost use Rattle.words.specs.Words.{counts_over, number_over};
 

@@ -1,0 +1,160 @@
+-- `opcodes::row_of` meets its contract: in each arm the number decides the row; the ranges hold what no row has.
+-- Assumes nothing.
+use Rattle.opcodes.specs.Opcodes.{meaning_of}
+use Rattle.opcodes.proofs.row_of.Goals as goal
+
+pub returns-in-0 : goal.returns-in-0
+unfolding meaning_of
+returns-in-0 c = ?
+
+pub returns-in-6 : goal.returns-in-6
+unfolding meaning_of
+returns-in-6 c = ?
+
+pub returns-in-4 : goal.returns-in-4
+unfolding meaning_of
+returns-in-4 c = ?
+
+pub returns-in-55 : goal.returns-in-55
+unfolding meaning_of
+returns-in-55 c = ?
+
+pub returns-in-56 : goal.returns-in-56
+unfolding meaning_of
+returns-in-56 c = ?
+
+pub returns-in-255 : goal.returns-in-255
+unfolding meaning_of
+returns-in-255 c = ?
+
+pub returns-in-185 : goal.returns-in-185
+unfolding meaning_of
+returns-in-185 c = ?
+
+pub returns-in-171 : goal.returns-in-171
+unfolding meaning_of
+returns-in-171 c = ?
+
+pub returns-in-102 : goal.returns-in-102
+unfolding meaning_of
+returns-in-102 c = ?
+
+pub returns-in-153 : goal.returns-in-153
+unfolding meaning_of
+returns-in-153 c = ?
+
+pub returns-in-5 : goal.returns-in-5
+unfolding meaning_of
+returns-in-5 c = ?
+
+pub returns-in-20 : goal.returns-in-20
+unfolding meaning_of
+returns-in-20 c = ?
+
+pub returns-in-53 : goal.returns-in-53
+unfolding meaning_of
+returns-in-53 c = ?
+
+pub returns-in-63 : goal.returns-in-63
+unfolding meaning_of
+returns-in-63 c = ?
+
+pub returns-in-68 : goal.returns-in-68
+unfolding meaning_of
+returns-in-68 c = ?
+
+pub returns-in-69 : goal.returns-in-69
+unfolding meaning_of
+returns-in-69 c = ?
+
+pub returns-in-70 : goal.returns-in-70
+unfolding meaning_of
+returns-in-70 c = ?
+
+pub returns-in-159 : goal.returns-in-159
+unfolding meaning_of
+returns-in-159 c = ?
+
+pub returns-in-76 : goal.returns-in-76
+unfolding meaning_of
+returns-in-76 c = ?
+
+pub returns-in-195 : goal.returns-in-195
+unfolding meaning_of
+returns-in-195 c = ?
+
+pub returns-in-101 : goal.returns-in-101
+unfolding meaning_of
+returns-in-101 c = ?
+
+pub returns-in-3 : goal.returns-in-3
+unfolding meaning_of
+returns-in-3 c = ?
+
+pub returns-in-75 : goal.returns-in-75
+unfolding meaning_of
+returns-in-75 c = ?
+
+pub returns-in-1 : goal.returns-in-1
+unfolding meaning_of
+returns-in-1 c = ?
+
+pub returns-in-135 : goal.returns-in-135
+unfolding meaning_of
+returns-in-135 c = ?
+
+pub returns-in-194 : goal.returns-in-194
+unfolding meaning_of
+returns-in-194 c = ?
+
+pub returns-in-26 : goal.returns-in-26
+unfolding meaning_of
+returns-in-26 c = ?
+
+pub returns-in-2 : goal.returns-in-2
+unfolding meaning_of
+returns-in-2 c = ?
+
+pub returns-in-66 : goal.returns-in-66
+unfolding meaning_of
+returns-in-66 c = ?
+
+pub returns-in-11 : goal.returns-in-11
+unfolding meaning_of
+returns-in-11 c = ?
+
+pub returns-in-235 : goal.returns-in-235
+unfolding meaning_of
+returns-in-235 c = ?
+
+pub returns-in-139 : goal.returns-in-139
+unfolding meaning_of
+returns-in-139 c = ?
+
+pub returns-in-130 : goal.returns-in-130
+unfolding meaning_of
+returns-in-130 c = ?
+
+pub returns-in-181 : goal.returns-in-181
+unfolding meaning_of
+returns-in-181 c = ?
+
+pub returns-in-177 : goal.returns-in-177
+unfolding meaning_of
+returns-in-177 c = ?
+
+pub returns-in-245 : goal.returns-in-245
+unfolding meaning_of
+returns-in-245 c = ?
+
+pub returns-in-192 : goal.returns-in-192
+unfolding meaning_of
+returns-in-192 c = ?
+
+pub returns-in-7-to-10 : goal.returns-in-7-to-10
+unfolding meaning_of
+returns-in-7-to-10 c = ?
+
+pub returns-in-7-to-10-2 : goal.returns-in-7-to-10-2
+unfolding meaning_of
+returns-in-7-to-10-2 c = ?

@@ -1,0 +1,8 @@
+-- `text::put_decimal` meets its contract: the fewest digits that hold the number are its decimal text.
+-- Assumes nothing.
+use borrow.Author.Rules.{rules}
+use Rattle.text.specs.Decimal.{decimal_put}
+use Rattle.text.proofs.put_decimal.Goals as goal
+
+pub returns : goal.returns
+returns c = decimal_put _ (search rules) c.put_all.ensures c.decimal-n.ensures.1.1 c.decimal-n.ensures.1.0

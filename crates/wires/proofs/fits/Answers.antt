@@ -1,0 +1,15 @@
+-- `wires::fits` meets its contract: past its last bit a number has none, and before it a shift shows those above.
+-- Assumes nothing.
+use mathlib.Core.Path.{sym, ◌∙◌, refl}
+use borrow.Author.Tests.{leb-true}
+use Rattle.wires.specs.Laws.{bits_many, fits_all, fits_by}
+use Rattle.wires.proofs.fits.Goals as goal
+
+pub returns-then-at_most : goal.returns-then-at_most
+returns-then-at_most c = fits_all c.args.w c.args.c _ c.ranges.v.fits (bits_many c.args.w c.args.c.0 (leb-true _ _ (sym (rw c.stated.ensures at c.at_most.ensures) ∙ c.if-at_most.true)))
+
+pub returns-then-bits-ge-NUMBER : goal.returns-then-bits-ge-NUMBER
+returns-then-bits-ge-NUMBER c = fits_all c.args.w c.args.c _ c.ranges.v.fits (rw c.bits_in-bits.ensures at c.if-bits-ge-NUMBER.true)
+
+pub returns : goal.returns
+returns c = rw c.bits_in-bits.ensures (fits_by _ _ _ _ refl)
