@@ -1,6 +1,6 @@
 -- `state_check::configurations_allowed` meets its contract: each way stops at the first value that is not allowed.
 -- Assumes nothing.
-use borrow.Author.Tests.{lt-ltb, le-ltb, ne_eqb, not-true, not-false}
+use borrow.Author.Tests.{lt-ltb, le-ltb, ne_eqb}
 use Rattle.state_check.specs.Values.{configurations_allowed}
 use Rattle.state_check.proofs.configurations_allowed.Goals as goal
 
@@ -14,8 +14,8 @@ returns-then-cr2-ge16 c = rw (c.if-cr1-ne0.false, le-ltb c.args.cr2 16 c.if-cr2-
 
 pub returns-then-not-cr3_allowed : goal.returns-then-not-cr3_allowed
 unfolding configurations_allowed
-returns-then-not-cr3_allowed c = rw (c.if-cr1-ne0.false, lt-ltb c.args.cr2 16 c.if-cr2-ge16.false, ← c.cr3_allowed.ensures, not-true c.cr3_allowed.result c.if-not-cr3_allowed.true)
+returns-then-not-cr3_allowed c = rw (c.if-cr1-ne0.false, lt-ltb c.args.cr2 16 c.if-cr2-ge16.false, ← c.cr3_allowed.ensures, c.if-not-cr3_allowed.true)
 
 pub returns : goal.returns
 unfolding configurations_allowed
-returns c = rw (c.if-cr1-ne0.false, lt-ltb c.args.cr2 16 c.if-cr2-ge16.false, ← c.cr3_allowed.ensures, not-false c.cr3_allowed.result c.if-not-cr3_allowed.false) c.cr4_allowed.ensures
+returns c = rw (c.if-cr1-ne0.false, lt-ltb c.args.cr2 16 c.if-cr2-ge16.false, ← c.cr3_allowed.ensures, c.if-not-cr3_allowed.false) c.cr4_allowed.ensures

@@ -7,8 +7,8 @@ use Rattle.state_check.proofs.in_range.Goals as goal
 
 pub returns-in-Mram : goal.returns-in-Mram
 unfolding in_range
-returns-in-Mram c = rw (sym (c.family.ensures ∙ ap family_of c.of-part.ensures) ∙ c.enum_told-1.is, c.mram_valid.ensures, c.of-part.ensures)
+returns-in-Mram c = rw (sym (c.family.ensures ∙ ap family_of c.of-part.ensures) ∙ c.in-Mram.is, c.mram_valid.ensures, c.of-part.ensures)
 
 pub returns-in-Psram : goal.returns-in-Psram
 unfolding in_range
-returns-in-Psram c = rw (sym (c.family.ensures ∙ ap family_of c.of-part.ensures) ∙ c.enum_told-in-Psram-1.is, c.psram_valid.ensures)
+returns-in-Psram c = rw (sym (c.family.ensures ∙ ap family_of c.of-part.ensures) ∙ c.in-Psram.is, c.psram_valid.ensures)

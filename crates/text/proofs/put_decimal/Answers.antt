@@ -5,4 +5,4 @@ use Rattle.text.specs.Decimal.{decimal_put}
 use Rattle.text.proofs.put_decimal.Goals as goal
 
 pub returns : goal.returns
-returns c = decimal_put _ (search rules) c.put_all.ensures c.decimal-n.ensures.1.1 c.decimal-n.ensures.1.0
+returns c = decimal_put _ (search rules) c.put_all.ensures c.decimal-n.ensures.digits c.decimal-n.ensures.len

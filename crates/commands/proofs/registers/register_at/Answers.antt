@@ -5,8 +5,8 @@ use Rattle.commands.proofs.registers.register_at.Goals as goal
 
 pub returns-in-M : goal.returns-in-M
 unfolding mapped_of
-returns-in-M c = rw c.enum_told-1.is c.register_of_mram.ensures
+returns-in-M c = rw c.in-M.is c.register_of_mram.ensures
 
 pub returns-in-P : goal.returns-in-P
 unfolding mapped_of
-returns-in-P c = rw c.enum_told-in-P-1.is
+returns-in-P c = rw c.in-P.is
