@@ -1,0 +1,8 @@
+-- `places::write_place` meets its contract: store and group are not empty.
+-- Assumes nothing.
+use lib.Pow.{pow_pos}
+use Rattle.places.specs.Laws.{write_span_pos}
+use Rattle.places.proofs.write_place.Goals as goal
+
+pub place_in-requires : goal.place_in-requires
+place_in-requires c = rw (c.memory_size.ensures, c.write_span.ensures) (record { store = pow_pos c.args.s.n; group = write_span_pos c.args.s; few = c.requires.1 })
