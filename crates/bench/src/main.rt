@@ -2,17 +2,18 @@
 #![tactic(auto)]
 
 use bench_play::{play, too_long};
+use std::alloc::AllocError;
 
-fn main() {
-    let fd = tape_input::opened();
-    if fd < 0 {
-        return;
-    }
+fn main(rt: HostRuntime) -> Result<(), AllocError> {
+    let Some(source) = tape_input::opened(&rt)? else {
+        return Ok(());
+    };
     let mut tape = io::large_buffer();
-    let n = io::read_full(fd, &mut tape);
-    if tape_input::has_more(fd) {
+    let n = tape_input::read_full(&source, &mut tape);
+    if tape_input::has_more(&source) {
         too_long();
-        return;
+        return Ok(());
     }
     play(&tape[..n]);
+    Ok(())
 }

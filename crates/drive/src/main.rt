@@ -7,6 +7,7 @@ use drive_rows::show;
 use drive_texts::{put_long, put_refusal, put_wrong};
 use host_order::Order;
 use record::is_done;
+use std::env::{Env, FillError};
 use text::{flush_to, put};
 use units::{Bytes, Clocks};
 
@@ -20,34 +21,36 @@ struct Heard {
     long: usize,
 }
 
-// Word `i` of the command line. One too long for the buffer is wrong.
-fn hear(h: Heard, i: usize, word: &mut [u8], written: &mut [u8]) -> Heard {
+// Word `i` of the command line, or nothing where there is none. One too long for the buffer is wrong.
+fn hear(rt: &impl Env, h: Heard, i: usize, word: &mut [u8], written: &mut [u8]) -> Option<Heard> {
     let a = h.asked;
-    let n = os::arg(i, word);
-    if os::errno() != 0 {
-        return Heard {
+    match rt.arg(i, word) {
+        Ok(n) => Some(Heard {
+            asked: take_word(a, &word[..n], written),
+            long: n,
+        }),
+        Err(FillError::TooLong) => Some(Heard {
             asked: not_so(a),
             long: 0,
-        };
-    }
-    Heard {
-        asked: take_word(a, &word[..n], written),
-        long: n,
+        }),
+        Err(FillError::NotPresent) => None,
     }
 }
 
 // All words, to the last or to one that is wrong.
-fn hear_all(word: &mut [u8], written: &mut [u8]) -> Heard {
+fn hear_all(rt: &impl Env, word: &mut [u8], written: &mut [u8]) -> Heard {
     let mut h = Heard {
         asked: nothing_asked(),
         long: 0,
     };
-    let count = os::arg_count();
-    let mut i = 1;
-    while i < count && !h.asked.wrong {
-        let k = i;
-        i += 1;
-        h = hear(h, k, word, written);
+    for i in 1..usize::MAX {
+        if h.asked.wrong {
+            break;
+        }
+        let Some(next) = hear(rt, h, i, word, written) else {
+            break;
+        };
+        h = next;
     }
     h
 }
@@ -131,8 +134,8 @@ fn refuse(page: &mut [u8], a: Asked, word: &[u8], long: usize) {
     flush_to(2, page, b);
 }
 
-fn drive(page: &mut [u8], word: &mut [u8], written: &mut [u8], samples: &mut [u8]) {
-    let h = hear_all(word, written);
+fn drive(rt: &impl Env, page: &mut [u8], word: &mut [u8], written: &mut [u8], samples: &mut [u8]) {
+    let h = hear_all(rt, word, written);
     let a = ended(h.asked);
     let n = a.written;
     if !is_whole(a) {
@@ -145,10 +148,10 @@ fn drive(page: &mut [u8], word: &mut [u8], written: &mut [u8], samples: &mut [u8
     build(page, a, &written[..n], samples);
 }
 
-fn main() {
+fn main(rt: HostRuntime) {
     let mut page = io::large_buffer();
     let mut word = io::large_buffer();
     let mut written = io::large_buffer();
     let mut samples = io::large_buffer();
-    drive(&mut page, &mut word, &mut written, &mut samples);
+    drive(&rt, &mut page, &mut word, &mut written, &mut samples);
 }

@@ -4,6 +4,7 @@
 
 use list_turns::{start, turn};
 use parts::LARGEST_AREA;
+use std::alloc::AllocError;
 use tape::LARGEST_MEMORY;
 use text::put_all;
 use units::Bytes;
@@ -56,19 +57,19 @@ fn list(tape: &[u8]) {
     );
 }
 
-fn main() {
-    let fd = tape_input::opened();
-    if fd < 0 {
-        return;
-    }
+fn main(rt: HostRuntime) -> Result<(), AllocError> {
+    let Some(source) = tape_input::opened(&rt)? else {
+        return Ok(());
+    };
     let mut tape = io::large_buffer();
-    let n = io::read_full(fd, &mut tape);
-    if tape_input::has_more(fd) {
+    let n = tape_input::read_full(&source, &mut tape);
+    if tape_input::has_more(&source) {
         io::write_all(
             1,
             b"The tape is over 65,536 bytes, and nothing of it is played.\n",
         );
-        return;
+        return Ok(());
     }
     list(&tape[..n]);
+    Ok(())
 }

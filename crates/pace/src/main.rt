@@ -4,12 +4,16 @@
 // the last one left. The second program prints the same.
 #![tactic(auto)]
 
+ghost use Rattle.io.specs.Counts.{IsPrefixLen};
+
 use bench_columns::digest_column;
 use digits::number_in;
 use pace_calls::{Asked, build, chip, clocked_all, fill, gathered_all, total};
 use parts::{LARGEST_AREA, LARGEST_MEMORY, Part, PartM};
 use places::memory_size;
 use record::Device;
+use std::alloc::{AllocError, Global};
+use std::env::Env;
 use text::{flush, is_same, put, put_all, put_decimal};
 use units::Clocks;
 
@@ -26,14 +30,21 @@ fn what_in(word: &[u8]) -> u8 {
     0
 }
 
-fn what_at(i: usize, word: &mut [u8]) -> u8 {
-    let n = os::arg(i, word);
+// How long word `i` of the command line is. One that is missing, or too long for the buffer, has no bytes.
+fn take_word(rt: &impl Env, i: usize, word: &mut [u8]) -> usize
+    ensures { IsPrefixLen result word.new }
+{
+    rt.arg(i, word).unwrap_or(0)
+}
+
+fn what_at(rt: &impl Env, i: usize, word: &mut [u8]) -> u8 {
+    let n = take_word(rt, i, word);
     what_in(&word[..n])
 }
 
 // The number that word `i` of the command line is. One that is missing or no number is 0.
-fn number_at(i: usize, word: &mut [u8], most: u32) -> u32 {
-    let n = os::arg(i, word);
+fn number_at(rt: &impl Env, i: usize, word: &mut [u8], most: u32) -> u32 {
+    let n = take_word(rt, i, word);
     let number = number_in(&word[..n], 10, most);
     number.value
 }
@@ -43,14 +54,14 @@ fn most_clocks() -> u32 {
     Clocks::longest().in_clocks() as u32
 }
 
-fn hear(word: &mut [u8]) -> Asked {
+fn hear(rt: &impl Env, word: &mut [u8]) -> Asked {
     Asked {
-        what: what_at(1, word),
-        wires: (number_at(2, word, 4) % 256) as u8,
-        clocks: number_at(3, word, most_clocks()),
-        repeats: number_at(4, word, 1000000),
-        n: (number_at(5, word, PartM::MOST as u32) % 256) as u8,
-        chunk: number_at(6, word, most_clocks()) as usize,
+        what: what_at(rt, 1, word),
+        wires: (number_at(rt, 2, word, 4) % 256) as u8,
+        clocks: number_at(rt, 3, word, most_clocks()),
+        repeats: number_at(rt, 4, word, 1000000),
+        n: (number_at(rt, 5, word, PartM::MOST as u32) % 256) as u8,
+        chunk: number_at(rt, 6, word, most_clocks()) as usize,
     }
 }
 
@@ -158,9 +169,9 @@ fn run_sized(a: Asked, memory: &mut [u8], samples: &mut [u8], output: &mut [u8])
     run(a, memory, &mut samples[..clocks], &mut output[..clocks]);
 }
 
-fn pace(memory: &mut [u8], samples: &mut [u8], output: &mut [u8]) {
+fn pace(rt: &impl Env, memory: &mut [u8], samples: &mut [u8], output: &mut [u8]) {
     let mut word = io::buffer();
-    let a = hear(&mut word);
+    let a = hear(rt, &mut word);
     if !is_whole(a) {
         io::write_all(
             2,
@@ -171,14 +182,15 @@ fn pace(memory: &mut [u8], samples: &mut [u8], output: &mut [u8]) {
     run_sized(a, memory, samples, output);
 }
 
-// The largest memory that a chip has.
-fn largest() -> [u8; LARGEST_MEMORY] {
-    [0; LARGEST_MEMORY]
+// As much memory as the largest chip has. It is too much for the stack.
+fn largest(alloc: Global) -> Result<Vec<u8>, AllocError> {
+    vec![in alloc; 0; LARGEST_MEMORY]
 }
 
-fn main() {
-    let mut memory = largest();
+fn main(rt: HostRuntime) -> Result<(), AllocError> {
+    let mut memory = largest(rt.alloc())?;
     let mut samples = io::large_buffer();
     let mut output = io::large_buffer();
-    pace(&mut memory, &mut samples, &mut output);
+    pace(&rt, &mut memory, &mut samples, &mut output);
+    Ok(())
 }
