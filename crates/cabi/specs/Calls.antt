@@ -8,7 +8,7 @@ use Rattle.contract_words.specs.Words.{lends}
 use Rattle.image_check.specs.Accepted.{accepted}
 use Rattle.image_calls.specs.declared.Reply.{Reply}
 use Rattle.image_calls.specs.Calls.{Imaged, transact_in, power_in, open_in, feed_in, close_in}
-use Rattle.image_calls.specs.Fresh.{Made, fresh_mIn, fresh_m32_in, fresh_pIn}
+use Rattle.image_calls.specs.Fresh.{Made, fresh_m_in, fresh_m32_in, fresh_p_in}
 use Rattle.words.specs.Words.{has_counts, counts_over}
 
 -- ---- fresh chips
@@ -22,14 +22,14 @@ numbered_as v image = record { answer = v; image = image }
 abbrev pub made_from : Made → Numbered
 made_from m = numbered_as (answer_number m.answer) m.image
 
-unfoldable pub fresh_mFrom : ℕ → List ℕ → List ℕ → List ℕ → Numbered
-fresh_mFrom n device unique image = made_from (fresh_mIn n device unique image)
+unfoldable pub fresh_m_from : ℕ → List ℕ → List ℕ → List ℕ → Numbered
+fresh_m_from n device unique image = made_from (fresh_m_in n device unique image)
 
 unfoldable pub fresh_m32_from : ℕ → List ℕ → List ℕ → List ℕ → Numbered
 fresh_m32_from n device unique image = made_from (fresh_m32_in n device unique image)
 
-unfoldable pub fresh_pFrom : ℕ → List ℕ → List ℕ → Numbered
-fresh_pFrom n device image = made_from (fresh_pIn n device image)
+unfoldable pub fresh_p_from : ℕ → List ℕ → List ℕ → Numbered
+fresh_p_from n device image = made_from (fresh_p_in n device image)
 
 -- ---- the device: all that a call leaves
 pub record Call : Type 0 where

@@ -27,9 +27,9 @@ use Rattle.image.specs.Back.{EachByte}
 use Rattle.image_check.specs.Accepted.{accepted}
 use Rattle.image_calls.specs.Calls.{Imaged, image_check, transact_in, power_in, open_in, feed_in, close_in}
 use Rattle.image_calls.specs.Refused.{Unmoved, transact_refused, power_refused, open_refused, feed_refused, close_refused, transact_order, power_order, open_order, feed_order, close_order, fresh_refused, fresh_order}
-use Rattle.image_calls.specs.Fresh.{made, fresh_mram_in, fresh_pIn}
+use Rattle.image_calls.specs.Fresh.{made, fresh_mram_in, fresh_p_in}
 use Rattle.words.specs.Words.{has_counts, counts_over}
-use Rattle.cabi.specs.Calls.{Call, in_words, unroomed_number, counted, made_from, fresh_mFrom, fresh_m32_from, fresh_pFrom, transact_from, power_from, open_from, feed_from, close_from}
+use Rattle.cabi.specs.Calls.{Call, in_words, unroomed_number, counted, made_from, fresh_m_from, fresh_m32_from, fresh_p_from, transact_from, power_from, open_from, feed_from, close_from}
 
 -- nothing has changed
 pub record Kept (image : List ℕ) (l : Lent) (out counts : List ℕ) (k : Call) : Type 0 where
@@ -149,26 +149,26 @@ module _ (n : ℕ) (device image : List ℕ) where
   psram_fits = offered P n && eqb (length device) 8
 
   module _ (unique : List ℕ) where
-    pub fresh_m_kept : refusing (fresh_mFrom n device unique image).answer ≡ true → (fresh_mFrom n device unique image).image ≡ image
-    unfolding fresh_mFrom fresh_mram_in
+    pub fresh_m_kept : refusing (fresh_m_from n device unique image).answer ≡ true → (fresh_m_from n device unique image).image ≡ image
+    unfolding fresh_m_from fresh_mram_in
     fresh_m_kept = kept (mram_fits M unique) (fresh_of (make_of M n) device unique)
 
     pub fresh_m32_kept : refusing (fresh_m32_from n device unique image).answer ≡ true → (fresh_m32_from n device unique image).image ≡ image
     unfolding fresh_m32_from fresh_mram_in
     fresh_m32_kept = kept (mram_fits M32 unique) (fresh_of (make_of M32 n) device unique)
 
-    pub fresh_m_ordered : (fresh_mFrom n device unique image).answer ≡ answer_number (first_of Done ((not long, State) ∷ (not (mram_fits M unique), Size) ∷ []))
-    unfolding fresh_mFrom fresh_mram_in
+    pub fresh_m_ordered : (fresh_m_from n device unique image).answer ≡ answer_number (first_of Done ((not long, State) ∷ (not (mram_fits M unique), Size) ∷ []))
+    unfolding fresh_m_from fresh_mram_in
     fresh_m_ordered = ordered (mram_fits M unique) (fresh_of (make_of M n) device unique)
 
     pub fresh_m32_ordered : (fresh_m32_from n device unique image).answer ≡ answer_number (first_of Done ((not long, State) ∷ (not (mram_fits M32 unique), Size) ∷ []))
     unfolding fresh_m32_from fresh_mram_in
     fresh_m32_ordered = ordered (mram_fits M32 unique) (fresh_of (make_of M32 n) device unique)
 
-  pub fresh_p_kept : refusing (fresh_pFrom n device image).answer ≡ true → (fresh_pFrom n device image).image ≡ image
-  unfolding fresh_pFrom fresh_pIn
+  pub fresh_p_kept : refusing (fresh_p_from n device image).answer ≡ true → (fresh_p_from n device image).image ≡ image
+  unfolding fresh_p_from fresh_p_in
   fresh_p_kept = kept psram_fits (fresh_of (make_of P n) device (replicate 8 0))
 
-  pub fresh_p_ordered : (fresh_pFrom n device image).answer ≡ answer_number (first_of Done ((not long, State) ∷ (not psram_fits, Size) ∷ []))
-  unfolding fresh_pFrom fresh_pIn
+  pub fresh_p_ordered : (fresh_p_from n device image).answer ≡ answer_number (first_of Done ((not long, State) ∷ (not psram_fits, Size) ∷ []))
+  unfolding fresh_p_from fresh_p_in
   fresh_p_ordered = ordered psram_fits (fresh_of (make_of P n) device (replicate 8 0))

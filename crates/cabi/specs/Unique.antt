@@ -4,17 +4,17 @@ use Rattle.std.specs.Prelude.{◌≡◌, List, ℕ}
 use Rattle.image_calls.specs.Unique.{one}
 use Rattle.paper.specs.Storing.{Lent}
 use Rattle.paper.specs.Building.{Order}
-use Rattle.cabi.specs.Calls.{Numbered, Call, fresh_mFrom, fresh_m32_from, fresh_pFrom, transact_from, power_from, open_from, feed_from, close_from}
+use Rattle.cabi.specs.Calls.{Numbered, Call, fresh_m_from, fresh_m32_from, fresh_p_from, transact_from, power_from, open_from, feed_from, close_from}
 use Rattle.cabi.specs.Fills.{Filled, build_in, gather_in}
 
 module _ (n : ℕ) (device image : List ℕ) {x y : Numbered} where
-  pub tondravik_fresh_m_unique : (identity : List ℕ) → x ≡ fresh_mFrom n device identity image → y ≡ fresh_mFrom n device identity image → x ≡ y
+  pub tondravik_fresh_m_unique : (identity : List ℕ) → x ≡ fresh_m_from n device identity image → y ≡ fresh_m_from n device identity image → x ≡ y
   tondravik_fresh_m_unique identity = one
 
   pub tondravik_fresh_m32_unique : (identity : List ℕ) → x ≡ fresh_m32_from n device identity image → y ≡ fresh_m32_from n device identity image → x ≡ y
   tondravik_fresh_m32_unique identity = one
 
-  pub tondravik_fresh_p_unique : x ≡ fresh_pFrom n device image → y ≡ fresh_pFrom n device image → x ≡ y
+  pub tondravik_fresh_p_unique : x ≡ fresh_p_from n device image → y ≡ fresh_p_from n device image → x ≡ y
   tondravik_fresh_p_unique = one
 
 module _ (image : List ℕ) (l : Lent) {x y : Call} where

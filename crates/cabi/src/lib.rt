@@ -5,7 +5,7 @@
 ghost use Rattle.std.specs.Prelude.{◌≡◌, []};
 ghost use Rattle.units.specs.Units.{bytes};
 ghost use Rattle.contract_words.specs.Words.{lends};
-ghost use Rattle.cabi.specs.Calls.{numbered_as, numbered, call_as, unroomed_number, fresh_mFrom, fresh_m32_from, fresh_pFrom, transact_from, power_from, open_from, feed_from, close_from};
+ghost use Rattle.cabi.specs.Calls.{numbered_as, numbered, call_as, unroomed_number, fresh_m_from, fresh_m32_from, fresh_p_from, transact_from, power_from, open_from, feed_from, close_from};
 ghost use Rattle.cabi.specs.Fills.{filled_as, order_in, build_in, gather_in};
 
 use host_order::Order;
@@ -23,7 +23,7 @@ const STATE: u8 = 3;
 // A fresh chip of part M.
 #[unsafe(no_mangle)]
 pub extern "C" fn tondravik_fresh_m(n: u8, device: &[u8], unique: &[u8], image: &mut [u8]) -> u8
-    ensures { numbered_as result image.new ≡ fresh_mFrom n device.now unique.now image.old }
+    ensures { numbered_as result image.new ≡ fresh_m_from n device.now unique.now image.old }
 {
     answer_number(image_calls::fresh_m(n, device, unique, image))
 }
@@ -39,7 +39,7 @@ pub extern "C" fn tondravik_fresh_m32(n: u8, device: &[u8], unique: &[u8], image
 // A fresh chip of part P.
 #[unsafe(no_mangle)]
 pub extern "C" fn tondravik_fresh_p(n: u8, device: &[u8], image: &mut [u8]) -> u8
-    ensures { numbered_as result image.new ≡ fresh_pFrom n device.now image.old }
+    ensures { numbered_as result image.new ≡ fresh_p_from n device.now image.old }
 {
     answer_number(image_calls::fresh_p(n, device, image))
 }

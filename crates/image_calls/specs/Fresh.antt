@@ -25,11 +25,11 @@ made fits d image = cond (eqb (length image) image_size) (cond fits (made_as Don
 unfoldable pub fresh_mram_in : Part → ℕ → List ℕ → List ℕ → List ℕ → Made
 fresh_mram_in p n device unique image = made (offered p n && (eqb (length device) 4 && eqb (length unique) 8)) (fresh_of (make_of p n) device unique) image
 
-abbrev pub fresh_mIn : ℕ → List ℕ → List ℕ → List ℕ → Made
-fresh_mIn n device unique image = fresh_mram_in M n device unique image
+abbrev pub fresh_m_in : ℕ → List ℕ → List ℕ → List ℕ → Made
+fresh_m_in n device unique image = fresh_mram_in M n device unique image
 
 abbrev pub fresh_m32_in : ℕ → List ℕ → List ℕ → List ℕ → Made
 fresh_m32_in n device unique image = fresh_mram_in M32 n device unique image
 
-unfoldable pub fresh_pIn : ℕ → List ℕ → List ℕ → Made
-fresh_pIn n device image = made (offered P n && eqb (length device) 8) (fresh_of (make_of P n) device (replicate 8 0)) image
+unfoldable pub fresh_p_in : ℕ → List ℕ → List ℕ → Made
+fresh_p_in n device image = made (offered P n && eqb (length device) 8) (fresh_of (make_of P n) device (replicate 8 0)) image

@@ -5,7 +5,7 @@ use Rattle.basis.specs.Unique.{unique}
 use Rattle.paper.specs.Storing.{Lent}
 use Rattle.image_calls.specs.declared.Reply.{Reply}
 use Rattle.image_calls.specs.Calls.{Imaged, imaged_as, transact_in, power_in, open_in, feed_in, close_in}
-use Rattle.image_calls.specs.Fresh.{Made, fresh_mIn, fresh_m32_in, fresh_pIn}
+use Rattle.image_calls.specs.Fresh.{Made, fresh_m_in, fresh_m32_in, fresh_p_in}
 
 -- a reply, and what is lent as the call leaves it
 pub record Ended : Type 0 where
@@ -46,11 +46,11 @@ one {L} = unique (λ (x : L). x) (λ (x : L). x) (λ x. refl)
 
 -- a fresh chip
 module _ (n : ℕ) (device image : List ℕ) {x y : Made} where
-  pub fresh_m_unique : (identity : List ℕ) → x ≡ fresh_mIn n device identity image → y ≡ fresh_mIn n device identity image → x ≡ y
+  pub fresh_m_unique : (identity : List ℕ) → x ≡ fresh_m_in n device identity image → y ≡ fresh_m_in n device identity image → x ≡ y
   fresh_m_unique identity = one
 
   pub fresh_m32_unique : (identity : List ℕ) → x ≡ fresh_m32_in n device identity image → y ≡ fresh_m32_in n device identity image → x ≡ y
   fresh_m32_unique identity = one
 
-  pub fresh_p_unique : x ≡ fresh_pIn n device image → y ≡ fresh_pIn n device image → x ≡ y
+  pub fresh_p_unique : x ≡ fresh_p_in n device image → y ≡ fresh_p_in n device image → x ≡ y
   fresh_p_unique = one

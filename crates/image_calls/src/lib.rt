@@ -9,7 +9,7 @@ ghost use Rattle.parts.specs.Parts.{family_of};
 ghost use Rattle.contract_words.specs.Words.{lends};
 ghost use Rattle.image.specs.Layout.{image_size};
 ghost use Rattle.image_calls.specs.Calls.{strange_reply, left_reply, leaves_as, imaged_as, transact_in, power_in, open_in, feed_in, close_in};
-ghost use Rattle.image_calls.specs.Fresh.{made_as, fresh_mram_in, fresh_mIn, fresh_m32_in, fresh_pIn};
+ghost use Rattle.image_calls.specs.Fresh.{made_as, fresh_mram_in, fresh_m_in, fresh_m32_in, fresh_p_in};
 
 use counts::Counts;
 use image::{IMAGE, eight_at, put_record, record_of};
@@ -142,7 +142,7 @@ fn fresh_mram(part: Part, n: u8, device: &[u8], unique: &[u8], image: &mut [u8])
 
 // A fresh chip of part M.
 pub fn fresh_m(n: u8, device: &[u8], unique: &[u8], image: &mut [u8]) -> Answer
-    ensures { made_as result image.new ≡ fresh_mIn n device.now unique.now image.old }
+    ensures { made_as result image.new ≡ fresh_m_in n device.now unique.now image.old }
 {
     fresh_mram(Part::M, n, device, unique, image)
 }
@@ -156,7 +156,7 @@ pub fn fresh_m32(n: u8, device: &[u8], unique: &[u8], image: &mut [u8]) -> Answe
 
 // A fresh chip of part P, with its eight bytes of device identity.
 pub fn fresh_p(n: u8, device: &[u8], image: &mut [u8]) -> Answer
-    ensures { made_as result image.new ≡ fresh_pIn n device.now image.old }
+    ensures { made_as result image.new ≡ fresh_p_in n device.now image.old }
 {
     if image.len() != IMAGE {
         return Answer::State;

@@ -67,7 +67,7 @@ use Rattle.image.specs.Back.{EachByte, InTypes}
 use Rattle.image_check.specs.Accepted.{valid_record, accepted}
 use Rattle.image_check.specs.Laws.{accepted_valid, accepted_typed, valid_state, image_accepted}
 use Rattle.image_calls.specs.Calls.{over_image, transact_in, power_in, open_in, feed_in, close_in}
-use Rattle.image_calls.specs.Fresh.{Made, made_as, made, fresh_mram_in, fresh_pIn}
+use Rattle.image_calls.specs.Fresh.{Made, made_as, made, fresh_mram_in, fresh_p_in}
 
 -- ---- in a valid record no number of the open transaction has more than four bytes
 -- what fits the clocks of a byte or of an address
@@ -356,8 +356,8 @@ module _ (n : ℕ) (device : List ℕ) where
       (subst (λ (f : Family). Places (fresh_identity f device unique)) (sym (ap family_of (part_back p) ∙ family)) q)
 
   -- part P
-  pub fresh_psram_image : (image : List ℕ) → (fresh_pIn n device image).answer ≡ Done → accepted (fresh_pIn n device image).image ≡ true
-  unfolding fresh_pIn
+  pub fresh_psram_image : (image : List ℕ) → (fresh_p_in n device image).answer ≡ Done → accepted (fresh_p_in n device image).image ≡ true
+  unfolding fresh_p_in
   fresh_psram_image image e =
       let (fits, i) = made_done (offered P n && eqb (length device) 8) (fresh_of (make_of P n) device (replicate 8 0)) image e in
       let (size, long) = both_true (offered P n) (eqb (length device) 8) fits in

@@ -2,12 +2,12 @@
 -- Assumes nothing.
 use mathlib.Core.Path.{ap}
 use borrow.Author.Rules.{rules}
-use Rattle.cabi.specs.Calls.{made_from, fresh_mFrom}
+use Rattle.cabi.specs.Calls.{made_from, fresh_m_from}
 use Rattle.cabi.proofs.tondravik_fresh_m.Statement.{statement}
 use Rattle.cabi.proofs.tondravik_fresh_m.Tie as tie
 
 pub tondravik_fresh_m_spec : {M : Type 1} → statement M
-unfolding fresh_mFrom
+unfolding fresh_m_from
 tondravik_fresh_m_spec =
     tie.close
     (tie.spec

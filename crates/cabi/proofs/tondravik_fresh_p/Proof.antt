@@ -2,12 +2,12 @@
 -- Assumes nothing.
 use mathlib.Core.Path.{ap}
 use borrow.Author.Rules.{rules}
-use Rattle.cabi.specs.Calls.{made_from, fresh_pFrom}
+use Rattle.cabi.specs.Calls.{made_from, fresh_p_from}
 use Rattle.cabi.proofs.tondravik_fresh_p.Statement.{statement}
 use Rattle.cabi.proofs.tondravik_fresh_p.Tie as tie
 
 pub tondravik_fresh_p_spec : {M : Type 1} → statement M
-unfolding fresh_pFrom
+unfolding fresh_p_from
 tondravik_fresh_p_spec =
     tie.close
     (tie.spec

@@ -2,13 +2,13 @@
 -- Assumes nothing.
 use borrow.Author.Rules.{rules}
 use Rattle.image.specs.Laws.{eight_whole}
-use Rattle.image_calls.specs.Fresh.{fresh_pIn}
+use Rattle.image_calls.specs.Fresh.{fresh_p_in}
 use borrow.Author.Tests.{not-true, not-false, eq-eqb, ne_eqb}
 use Rattle.image_calls.proofs.fresh_p.Statement.{statement}
 use Rattle.image_calls.proofs.fresh_p.Tie as tie
 
 pub fresh_p_spec : {M : Type 1} → statement M
-unfolding fresh_pIn
+unfolding fresh_p_in
 fresh_p_spec =
     tie.close
     (tie.spec

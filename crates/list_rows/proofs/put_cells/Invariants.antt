@@ -1,0 +1,12 @@
+-- `list_rows::put_cells` is safe and ends: each turn leaves one byte less, and the page keeps its length.
+-- Assumes nothing.
+use mathlib.Core.Path.{◌≡◌}
+use Prim.Native.Nat.{◌-◌}
+use lib.ListN.{length}
+use Rattle.list_rows.proofs.put_cells.Given as goal
+
+abbrev pub invariant-loop-i : goal.invariant-loop-i
+invariant-loop-i l = length l.page ≡ length l.initial.page
+
+abbrev pub decreases-loop-i : goal.decreases-loop-i
+decreases-loop-i l = l.till - l.i
