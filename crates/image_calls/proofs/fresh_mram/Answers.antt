@@ -1,0 +1,27 @@
+-- `image_calls::fresh_mram` meets its contract: each way is a test of the definition, and the part of a part's number is that part.
+-- Assumes nothing.
+use Rattle.parts.specs.Laws.{part_back}
+use Rattle.image.specs.Laws.{eight_whole}
+use Rattle.image_calls.specs.Fresh.{fresh_mram_in}
+use borrow.Author.Tests.{eq-eqb, ne_eqb}
+use Rattle.image_calls.proofs.fresh_mram.Goals as goal
+
+pub returns-then-image-ne-IMAGE : goal.returns-then-image-ne-IMAGE
+unfolding fresh_mram_in
+returns-then-image-ne-IMAGE c = rw (ne_eqb _ _ c.if-image-ne-IMAGE.true)
+
+pub returns-then-not-is_offered : goal.returns-then-not-is_offered
+unfolding fresh_mram_in
+returns-then-not-is_offered c = rw (eq-eqb _ _ c.if-image-ne-IMAGE.false, ← c.is_offered.ensures, c.if-not-is_offered.true)
+
+pub returns-then-device-ne4 : goal.returns-then-device-ne4
+unfolding fresh_mram_in
+returns-then-device-ne4 c = rw (eq-eqb _ _ c.if-image-ne-IMAGE.false, ← c.is_offered.ensures, c.if-not-is_offered.false, ne_eqb _ _ c.if-device-ne4.true)
+
+pub returns-then-unique-ne8 : goal.returns-then-unique-ne8
+unfolding fresh_mram_in
+returns-then-unique-ne8 c = rw (eq-eqb _ _ c.if-image-ne-IMAGE.false, ← c.is_offered.ensures, c.if-not-is_offered.false, eq-eqb _ _ c.if-device-ne4.false, ne_eqb _ _ c.if-unique-ne8.true)
+
+pub returns : goal.returns
+unfolding fresh_mram_in
+returns c = rw (eq-eqb _ _ c.if-image-ne-IMAGE.false, ← c.is_offered.ensures, c.if-not-is_offered.false, eq-eqb _ _ c.if-device-ne4.false, eq-eqb _ _ c.if-unique-ne8.false, c.put_record.ensures, c.fresh.ensures, c.number.ensures, c.eight_at.ensures, eight_whole c.args.unique.now c.if-unique-ne8.false, part_back c.args.part, c.requires)
