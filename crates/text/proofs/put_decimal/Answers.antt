@@ -1,7 +1,7 @@
 -- `text::put_decimal` meets its contract: the fewest digits that hold the number are its decimal text.
 -- Assumes nothing.
 use borrow.Author.Rules.{rules}
-use Rattle.text.specs.Decimal.{decimal_put}
+use Rattle.text.proofs.Decimal.{decimal_put}
 use Rattle.text.proofs.put_decimal.Goals as goal
 
 pub returns : goal.returns
