@@ -11,7 +11,7 @@ use Rattle.units.specs.declared.Wires.TheVariants.{One, Two, Four}
 use Rattle.units.specs.Units.{clocks, wires_of, per_byte, clocks_of, clocks_within, whole_of, unfinished_of, fewer_bytes}
 use Rattle.units.specs.Laws.{per_byte_pos, within_le, lt_whole}
 use Rattle.wires.specs.Bits.{gather, fits_in, spelled}
-use Rattle.wires.specs.Laws.{fits_lt, fits_none, gather_spread, spread_length}
+use Rattle.wires.proofs.Laws.{fits_lt, fits_none, gather_spread, spread_length}
 use Rattle.kinds.specs.declared.Register.{Register}
 use Rattle.kinds.specs.declared.Register.TheVariants as At
 use Rattle.kinds.specs.declared.Target.{Target}

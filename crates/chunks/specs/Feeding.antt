@@ -14,7 +14,7 @@ use borrow.Author.Tests.{leb-true, leb-false, le-leb, lt-leb}
 use Rattle.units.specs.Units.{clocks, per_byte}
 use Rattle.units.specs.Laws.{per_byte_pos}
 use Rattle.wires.specs.Bits.{gather_from, gather}
-use Rattle.wires.specs.Laws.{gather_append}
+use Rattle.wires.proofs.Laws.{gather_append}
 use Rattle.counts.specs.Counts.{no_counts}
 use Rattle.counts.specs.declared.Counts.{Counts}
 use Rattle.progress.specs.declared.Progress.{Progress}

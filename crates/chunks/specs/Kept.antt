@@ -12,7 +12,7 @@ use Rattle.units.specs.declared.Wires.{Wires}
 use Rattle.units.specs.declared.Wires.TheVariants.{One, Two, Four}
 use Rattle.units.specs.Units.{clocks, wires_of, per_byte, whole_of, unfinished_of}
 use Rattle.wires.specs.Bits.{gather, fits_in}
-use Rattle.wires.specs.Laws.{gather_lt, lt_fits, zero_fits}
+use Rattle.wires.proofs.Laws.{gather_lt, lt_fits, zero_fits}
 use Rattle.kinds.specs.declared.Kind.{Kind}
 use Rattle.commands.specs.declared.plans.Address.{Address}
 use Rattle.commands.specs.declared.plans.Address.TheVariants.{Absent, InMemory, InArea, InMap, LowNibbleZero, Ignored}

@@ -15,7 +15,7 @@ use Rattle.units.specs.declared.Wires.{Wires}
 use Rattle.units.specs.declared.Wires.TheVariants.{One, Two, Four}
 use Rattle.units.specs.Units.{clocks, bytes, less, up_to, at_most, longest, wires_of, per_byte, whole_of, unfinished_of}
 use Rattle.wires.specs.Bits.{gather_from, gather, fits_in, spelled}
-use Rattle.wires.specs.Laws.{fits_lt, fits_none, gather_spread, spread_length}
+use Rattle.wires.proofs.Laws.{fits_lt, fits_none, gather_spread, spread_length}
 use Rattle.parts.specs.Parts.{family_of}
 use Rattle.kinds.specs.declared.Kind.{Kind}
 use Rattle.kinds.specs.declared.Kind.TheVariants.{Unknown}

@@ -14,7 +14,7 @@ use Rattle.units.specs.declared.Wires.TheVariants.{One, Two, Four}
 use Rattle.units.specs.Units.{clocks, less, up_to, at_most, fewer_bytes, per_byte, clocks_of, clocks_within, whole_of}
 use Rattle.units.specs.Laws.{within_le, lt_whole}
 use Rattle.wires.specs.Bits.{gather_from, gather}
-use Rattle.wires.specs.Laws.{gather_byte}
+use Rattle.wires.proofs.Laws.{gather_byte}
 use Rattle.parts.specs.Parts.{family_of}
 use Rattle.kinds.specs.declared.Kind.{Kind}
 use Rattle.kinds.specs.declared.Kind.TheVariants.{Unknown}

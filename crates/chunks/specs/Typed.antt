@@ -6,7 +6,7 @@ use Rattle.basis.specs.Truth.{both_true}
 use Rattle.units.specs.declared.Wires.{Wires}
 use Rattle.units.specs.Units.{per_byte, whole_of}
 use Rattle.wires.specs.Bits.{gather}
-use Rattle.wires.specs.Laws.{gather_byte}
+use Rattle.wires.proofs.Laws.{gather_byte}
 use Rattle.commands.specs.declared.plans.Body.{Body}
 use Rattle.commands.specs.declared.plans.Body.TheVariants.{Nothing, FixedRead, AnyRead, FixedWrite, AnyWrite}
 use Rattle.record.specs.declared.devices.Underway.{Underway}

@@ -16,7 +16,7 @@ use Rattle.units.specs.Units.{clocks, bytes, per_byte, clocks_of}
 use Rattle.units.specs.Laws.{per_byte_pos}
 use Rattle.units.specs.declared.Wires.TheVariants.{One, Two, Four}
 use Rattle.wires.specs.Bits.{gather_from, gather, spelled}
-use Rattle.wires.specs.Laws.{spread_length}
+use Rattle.wires.proofs.Laws.{spread_length}
 use Rattle.parts.specs.Parts.{part_of, family_of, known_part}
 use Rattle.kinds.specs.declared.Kind.{Kind}
 use Rattle.kinds.specs.declared.Kind.TheVariants as Kinds

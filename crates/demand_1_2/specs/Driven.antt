@@ -10,7 +10,7 @@ use Rattle.units.specs.declared.Wires.{Wires}
 use Rattle.units.specs.Units.{clocks, fewer, at_most, wires_of, whole_of}
 use Rattle.wires.specs.Bits.{group_of}
 use Rattle.wires.specs.Levels.{driven_of}
-use Rattle.wires.specs.LevelLaws.{driven_level, level_not_zero}
+use Rattle.wires.proofs.LevelLaws.{driven_level, level_not_zero}
 use Rattle.kinds.specs.declared.Kind.{Kind}
 use Rattle.commands.specs.declared.plans.Body.{Body}
 use Rattle.commands.specs.declared.plans.Body.TheVariants.{Nothing, FixedRead, AnyRead, FixedWrite, AnyWrite}

@@ -19,9 +19,9 @@ use Rattle.units.specs.declared.Wires.TheVariants.{One, Two, Four}
 use Rattle.units.specs.Units.{clocks, bytes, wires_of, per_byte, whole_of}
 use Rattle.units.specs.Laws.{per_byte_pos}
 use Rattle.wires.specs.Bits.{above, spelled, group_of}
-use Rattle.wires.specs.Laws.{spread_length}
+use Rattle.wires.proofs.Laws.{spread_length}
 use Rattle.wires.specs.Levels.{level_of, seen_of, driven_of}
-use Rattle.wires.specs.LevelLaws.{seen_level, driven_level, level_not_zero}
+use Rattle.wires.proofs.LevelLaws.{seen_level, driven_level, level_not_zero}
 use Rattle.record.specs.declared.answers.Answer.TheVariants.{Done}
 use Rattle.record.specs.Devices.{mode_wires}
 use Rattle.paper.specs.Reading.{bytes_in, data_bytes}

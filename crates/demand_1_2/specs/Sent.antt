@@ -8,7 +8,7 @@ use Rattle.units.specs.declared.Wires.TheVariants.{One, Two, Four}
 use Rattle.units.specs.Units.{wires_of, per_byte}
 use Rattle.units.specs.Laws.{bits_of_byte, per_byte_pos}
 use Rattle.wires.specs.Bits.{gather, above, spelled}
-use Rattle.wires.specs.Laws.{spread_length, gather_spread}
+use Rattle.wires.proofs.Laws.{spread_length, gather_spread}
 use Rattle.paper.specs.Reading.{bytes_in, data_bytes}
 use Rattle.paper.specs.Building.{spread_all}
 use Rattle.paper.specs.Laws.{sent_many}

@@ -13,7 +13,7 @@ use Rattle.units.specs.declared.Wires.TheVariants.{One, Two, Four}
 use Rattle.units.specs.Units.{clocks, bytes, plus, per_byte, clocks_of, fewer, fewer_bytes, longest}
 use Rattle.units.specs.Laws.{per_byte_le}
 use Rattle.wires.specs.Bits.{spelled}
-use Rattle.wires.specs.Laws.{spread_length}
+use Rattle.wires.proofs.Laws.{spread_length}
 use Rattle.kinds.specs.declared.Kind.{Kind}
 use Rattle.commands.specs.declared.plans.Address.{Address}
 use Rattle.commands.specs.declared.plans.Address.TheVariants.{Absent, InMemory, InArea, InMap, LowNibbleZero, Ignored}

@@ -15,7 +15,7 @@ use Rattle.units.specs.declared.Wires.TheVariants.{One, Two, Four}
 use Rattle.units.specs.Units.{clocks, next, less, at_most, per_byte, whole_of, unfinished_of}
 use Rattle.units.specs.Laws.{per_byte_pos, per_byte_le}
 use Rattle.wires.specs.Bits.{shift_of, gather_from, gather}
-use Rattle.wires.specs.Laws.{gather_append, gather_byte}
+use Rattle.wires.proofs.Laws.{gather_append, gather_byte}
 use Rattle.wires.specs.Levels.{seen_of, driven_of}
 use Rattle.buffers.specs.Page.{Page, put_of}
 use Rattle.buffers.specs.Laws.{Left, none_put, put_one, drop_one}

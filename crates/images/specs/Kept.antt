@@ -15,7 +15,7 @@ use Rattle.units.specs.declared.Wires.{Wires}
 use Rattle.units.specs.Units.{clocks, less, up_to, at_most, fewer, longest, wires_of, per_byte, unfinished_of}
 use Rattle.units.specs.Laws.{per_byte_pos}
 use Rattle.wires.specs.Bits.{fits_in}
-use Rattle.wires.specs.Laws.{fits_lt}
+use Rattle.wires.proofs.Laws.{fits_lt}
 use Rattle.parts.specs.declared.Family.{Family}
 use Rattle.parts.specs.declared.Family.TheVariants.{Mram, Psram}
 use Rattle.parts.specs.declared.Part.{Part}

@@ -15,7 +15,7 @@ use Rattle.units.specs.declared.Wires.TheVariants.{One, Two, Four}
 use Rattle.units.specs.Units.{clocks, bytes, per_byte}
 use Rattle.units.specs.Laws.{per_byte_pos}
 use Rattle.wires.specs.Bits.{shift_of, gather_from, gather}
-use Rattle.wires.specs.Laws.{gather_byte}
+use Rattle.wires.proofs.Laws.{gather_byte}
 use Rattle.paper.specs.Reading.{bytes_in, data_bytes}
 use Rattle.paper.specs.Storing.{take_each}
 use Rattle.contract_words.specs.Words.{Taken, Take, Held}

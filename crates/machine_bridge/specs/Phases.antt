@@ -16,7 +16,7 @@ use Rattle.units.specs.declared.Wires.{Wires}
 use Rattle.units.specs.Units.{clocks, per_byte, at_most, byte_clocks}
 use Rattle.units.specs.Laws.{per_byte_pos}
 use Rattle.wires.specs.Bits.{shift_of, gather_from, gather}
-use Rattle.wires.specs.Laws.{gather_byte}
+use Rattle.wires.proofs.Laws.{gather_byte}
 use Rattle.parts.specs.Parts.{family_of}
 use Rattle.kinds.specs.declared.Kind.{Kind}
 use Rattle.kinds.specs.declared.Kind.TheVariants.{Unknown}

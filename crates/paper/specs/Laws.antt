@@ -11,7 +11,7 @@ use Rattle.units.specs.declared.Bytes.{Bytes}
 use Rattle.units.specs.declared.Wires.{Wires}
 use Rattle.units.specs.Units.{clocks, bytes, per_byte}
 use Rattle.wires.specs.Bits.{spelled}
-use Rattle.wires.specs.Laws.{spread_length}
+use Rattle.wires.proofs.Laws.{spread_length}
 use Rattle.paper.specs.Reading.{bytes_in, data_bytes}
 use Rattle.record.specs.declared.answers.Answer.TheVariants.{Done}
 use Rattle.record.specs.Answers.{is_done}

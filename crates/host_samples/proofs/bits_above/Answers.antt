@@ -2,7 +2,7 @@
 -- Assumes nothing.
 use mathlib.Core.Path.{sym, ◌∙◌}
 use borrow.Author.Tests.{leb-true}
-use Rattle.wires.specs.Laws.{bits_many}
+use Rattle.wires.proofs.Laws.{bits_many}
 use Rattle.host_samples.specs.Laws.{none_above}
 use Rattle.host_samples.proofs.bits_above.Goals as goal
 

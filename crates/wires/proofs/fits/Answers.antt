@@ -2,7 +2,7 @@
 -- Assumes nothing.
 use mathlib.Core.Path.{sym, ◌∙◌, refl}
 use borrow.Author.Tests.{leb-true}
-use Rattle.wires.specs.Laws.{bits_many, fits_all, fits_by}
+use Rattle.wires.proofs.Laws.{bits_many, fits_all, fits_by}
 use Rattle.wires.proofs.fits.Goals as goal
 
 pub returns-then-at_most : goal.returns-then-at_most
