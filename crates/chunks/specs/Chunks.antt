@@ -27,7 +27,8 @@ use Rattle.paper.specs.Underway.{factless, underway_valid, valid_of}
 use Rattle.paper.specs.Storing.{Lent}
 use Rattle.paper.specs.Transaction.{World, sized_for, room_for, room_after, sampled, over, open_checks, feed_checks, close_checks, clocked_of, transact_of}
 use Rattle.paper.specs.UnderwayLaws.{valid_range, idle_facts}
-use Rattle.paper.specs.CallLaws.{ChunkAccepted, clock_refusing, made_by, passed_by, chunk_accepting, when_accepted}
+use Rattle.paper.specs.CallLaws.{ChunkAccepted}
+use Rattle.paper.proofs.CallLaws.{clock_refusing, made_by, passed_by, chunk_accepting, when_accepted}
 use Rattle.paper.specs.Meanwhile.{underway_of}
 use Rattle.contract_words.specs.Words.{Run, begun}
 use Rattle.machine_phases.specs.Machine.{run_of, outs_of}

@@ -25,7 +25,8 @@ use Rattle.paper.specs.Storing.{Lent}
 use Rattle.paper.specs.Table.{listed}
 use Rattle.paper.specs.Answers.{table_for, judge}
 use Rattle.paper.specs.Transaction.{World, sized_for, room_for, so_far, room_after, sampled, undriven, clock_checks, bare_checks, open_checks, feed_checks, close_checks, transact_checks, clocked_of, transact_of, power_of}
-use Rattle.paper.specs.CallLaws.{Untouched, ChunkAccepted, by_checks, refused_by, made_by, answer_by_lem, chunk_accepting, when_accepted, judge_refuses_none}
+use Rattle.paper.specs.CallLaws.{Untouched, ChunkAccepted}
+use Rattle.paper.proofs.CallLaws.{by_checks, refused_by, made_by, answer_by_lem, chunk_accepting, when_accepted, judge_refuses_none}
 use Rattle.paper.specs.Meanwhile.{underway_of}
 use Rattle.contract_words.specs.Words.{begun}
 use Rattle.machine_phases.specs.Machine.{run_of}

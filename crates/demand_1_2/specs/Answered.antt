@@ -29,7 +29,7 @@ use Rattle.paper.specs.Storing.{Lent}
 use Rattle.paper.specs.Driving.{byte_read, level_at, driven_at, along}
 use Rattle.paper.specs.Table.{Table, answer_by, done_when_clear, by_row}
 use Rattle.paper.specs.Answers.{shut_data, unarmed, reserved_for, table_for, judge}
-use Rattle.paper.specs.CallLaws.{when_accepted}
+use Rattle.paper.proofs.CallLaws.{when_accepted}
 use Rattle.paper.specs.Laws.{Unrefused, unrefused_when}
 use Rattle.paper.specs.Transaction as tx
 use Rattle.paper.specs.Transaction.{World, clocked_of, room_for, sampled, facts_of, over, transact_of}

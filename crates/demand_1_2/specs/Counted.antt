@@ -19,7 +19,7 @@ use Rattle.paper.specs.Reading.{many, data_part, rest_part, Reading, reading_of}
 use Rattle.paper.specs.Storing.{Lent}
 use Rattle.paper.specs.Transaction.{facts_of, clocked_of, transact_of}
 use Rattle.paper.specs.ReadingLaws.{parts_together}
-use Rattle.paper.specs.CallLaws.{not_refused}
+use Rattle.paper.proofs.CallLaws.{not_refused}
 
 -- THE SUM
 pub counts_add_up : (d : Device) (l : Lent) (xs out : List ℕ) → refuses (transact_of d l xs out).answer ≡ false → total (transact_of d l xs out).counts ≡ many xs

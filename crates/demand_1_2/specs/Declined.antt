@@ -21,7 +21,7 @@ use Rattle.paper.specs.Reading.{many, reading_of}
 use Rattle.paper.specs.Storing.{Lent}
 use Rattle.paper.specs.Answers.{judge}
 use Rattle.paper.specs.Transaction.{World, facts_of, output_of, over, clocked_of, transact_of}
-use Rattle.paper.specs.CallLaws.{not_refused}
+use Rattle.paper.proofs.CallLaws.{not_refused}
 use Rattle.paper.specs.ReadingLaws.{none_driven}
 use Rattle.demand_1_2.specs.Counted.{counts_add_up}
 

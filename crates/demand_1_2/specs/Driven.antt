@@ -27,7 +27,7 @@ use Rattle.paper.specs.Driving.{byte_read, level_at, driven_at, along}
 use Rattle.paper.specs.Answers.{judge}
 use Rattle.paper.specs.Transaction as tx
 use Rattle.paper.specs.Transaction.{World, facts_of, undriven, around, over, clocked_of, transact_of}
-use Rattle.paper.specs.CallLaws.{not_refused}
+use Rattle.paper.proofs.CallLaws.{not_refused}
 use Rattle.paper.specs.Laws.{along_length, along_zero, along_at}
 use Rattle.paper.specs.ReadingLaws.{together, parts_together}
 

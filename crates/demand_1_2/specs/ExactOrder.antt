@@ -14,7 +14,7 @@ use Rattle.paper.specs.Storing.{Lent}
 use Rattle.paper.specs.Table.{listed}
 use Rattle.paper.specs.Answers.{table_for, judge}
 use Rattle.paper.specs.Transaction.{facts_of, transact_checks, power_checks, powered_up, clocked_of, transact_of, power_of}
-use Rattle.paper.specs.CallLaws.{answer_by_lem}
+use Rattle.paper.proofs.CallLaws.{answer_by_lem}
 
 -- THE WHOLE TABLE, one test a row: the checks before a transaction, and then the rows of `paper`
 abbrev pub whole_table : Device → Lent → List ℕ → List ℕ → List (Bool × Answer)

@@ -55,7 +55,7 @@ use Rattle.paper.specs.Storing.{Lent, into_area, protected_at, put_at, store_byt
 use Rattle.paper.specs.Table.{by_row}
 use Rattle.paper.specs.Answers.{Facts, reserved_for, table_for, judge}
 use Rattle.paper.specs.Transaction.{World, sized_for, room_for, sent_bytes, body_in, facts_of, stored_by, output_of, over, memory_after, refusal, guarded, transact_checks, power_checks, powered_up, clocked_of, transact_of, power_of}
-use Rattle.paper.specs.CallLaws.{accepting, by_checks}
+use Rattle.paper.proofs.CallLaws.{accepting, by_checks}
 use Rattle.demand_1_2.specs.Driven.{driven_length}
 
 -- ---- the commands of a family

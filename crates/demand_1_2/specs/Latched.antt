@@ -31,7 +31,7 @@ use Rattle.paper.specs.Storing.{Lent}
 use Rattle.paper.specs.Table.{by_row}
 use Rattle.paper.specs.Answers.{shut_data, table_for, judge}
 use Rattle.paper.specs.Transaction.{facts_of, clocked_of, transact_of}
-use Rattle.paper.specs.CallLaws.{not_refused}
+use Rattle.paper.proofs.CallLaws.{not_refused}
 
 -- a burst that is answered 0 or 9 takes it down in write mode 0; in 1 and 2, and with any other answer, it leaves it
 abbrev burst_left : Answer → ℕ → Bool → Bool

@@ -6,7 +6,8 @@ use Rattle.record.specs.declared.devices.Device.{Device}
 use Rattle.record.specs.Answers.{refuses}
 use Rattle.paper.specs.Storing.{Lent}
 use Rattle.paper.specs.Transaction.{transact_of, power_of}
-use Rattle.paper.specs.CallLaws.{Untouched, transact_refused, power_refused_so}
+use Rattle.paper.specs.CallLaws.{Untouched}
+use Rattle.paper.proofs.CallLaws.{transact_refused, power_refused_so}
 
 pub refused : (d : Device) (l : Lent) (xs out : List ℕ) → refuses (transact_of d l xs out).answer ≡ true → Untouched d l out (transact_of d l xs out)
 refused d l xs out = transact_refused d l xs out

@@ -37,7 +37,7 @@ use Rattle.paper.specs.Table.{by_row}
 use Rattle.paper.specs.Answers.{Facts, short_data, long_rest, unarmed, reserved_for, shut_data, table_for, judge}
 use Rattle.paper.specs.Transaction.{World, sized_for, room_for, sent_bytes, body_in, facts_of, stored_by, undriven, around, output_of, over, clocked_of, transact_of}
 use Rattle.paper.specs.ReadingLaws.{none_driven}
-use Rattle.paper.specs.CallLaws.{when_accepted}
+use Rattle.paper.proofs.CallLaws.{when_accepted}
 use Rattle.demand_3.specs.Bursts.{Burst, store_from, store, shut_all, landed}
 use Rattle.demand_3.specs.Bytes.{taken_so, shut_so}
 use Rattle.demand_3.specs.Episodes.{Call, Reply, Roomy, aimed, MemoryWrite}

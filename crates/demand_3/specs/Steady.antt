@@ -29,7 +29,8 @@ use Rattle.paper.specs.Storing.{Lent, store_byte}
 use Rattle.paper.specs.Table.{Clear, clear, done_when_clear}
 use Rattle.paper.specs.Answers.{resetting, unarmed, reserved_for, shut_data, table_for, judge}
 use Rattle.paper.specs.Transaction.{World, sized_for, room_for, sent_bytes, facts_of, stored_by, undriven, clocked_of, transact_of}
-use Rattle.paper.specs.CallLaws.{Accepted, accepted, when_accepted, not_refused}
+use Rattle.paper.specs.CallLaws.{Accepted}
+use Rattle.paper.proofs.CallLaws.{accepted, when_accepted, not_refused}
 use Rattle.paper.specs.Laws.{still}
 use Rattle.demand_3.specs.Episodes.{Call, Roomy}
 use Rattle.demand_3.specs.Calls.{quietly, roomy_for, relatch, world_at, quiet}

@@ -22,7 +22,8 @@ use Rattle.paper.specs.Underway.{reached}
 use Rattle.paper.specs.UnderwayLaws.{open_reached}
 use Rattle.paper.specs.Storing.{Lent}
 use Rattle.paper.specs.Transaction.{room_for, so_far, room_after, transact_checks, power_checks, open_checks, feed_checks, close_checks, memory_after, powered_up, clocked_of, transact_of, power_of}
-use Rattle.paper.specs.CallLaws.{Decided, clock_refusing, bare_refusing, checks_passed, decided_by, accepting, chunk_accepting}
+use Rattle.paper.specs.CallLaws.{Decided}
+use Rattle.paper.proofs.CallLaws.{clock_refusing, bare_refusing, checks_passed, decided_by, accepting, chunk_accepting}
 use Rattle.machine_stretches.specs.Stretches.{Passed}
 use Rattle.machine_chunks.specs.Chunks.{resume_of, Continued, opened_world, open_of, fed_world, feed_of, closed_world, close_of}
 use Rattle.machine_chunks.specs.Laws.{split_total}

@@ -15,7 +15,8 @@ use Rattle.record.specs.Answers.{refuses}
 use Rattle.record.specs.Fields.{closed_of}
 use Rattle.paper.specs.Storing.{Lent}
 use Rattle.paper.specs.Transaction.{World, refusal, guarded, clocked_of, powered_up, transact_checks, power_checks, open_checks, feed_checks, close_checks, transact_of, power_of}
-use Rattle.paper.specs.CallLaws.{Untouched, refused_by, answer_by_lem, judge_refuses_none}
+use Rattle.paper.specs.CallLaws.{Untouched}
+use Rattle.paper.proofs.CallLaws.{refused_by, answer_by_lem, judge_refuses_none}
 use Rattle.machine_end.specs.Finish.{finish_of, outcome_of}
 use Rattle.machine_chunks.specs.Chunks.{opened_world, fed_world, closed_world, open_of, feed_of, close_of}
 use Rattle.image.specs.Layout.{image_size}

@@ -53,7 +53,7 @@ use Rattle.paper.specs.Meanwhile.{underway_of}
 use Rattle.paper.specs.Storing.{Lent}
 use Rattle.paper.specs.Answers.{Facts, judge}
 use Rattle.paper.specs.Transaction.{World, facts_of, refusal, guarded, transact_checks, power_checks, open_checks, feed_checks, close_checks, clocked_of, powered_up, transact_of, power_of}
-use Rattle.paper.specs.CallLaws.{by_checks, made_by, accepting, chunk_accepting}
+use Rattle.paper.proofs.CallLaws.{by_checks, made_by, accepting, chunk_accepting}
 use Rattle.machine_end.specs.Finish.{facts_in, finish_of, outcome_of}
 use Rattle.machine_chunks.specs.Chunks.{resume_of, opened_world, fed_world, closed_world, open_of, feed_of, close_of}
 use Rattle.demand_1_2.specs.Sent.{bytewise}
