@@ -26,7 +26,7 @@ use Rattle.host.specs.declared.Built.{Built}
 use Rattle.host.specs.declared.Gathered.{Gathered}
 use Rattle.host.specs.Results.{built_as, gathered_as}
 use Rattle.demand_1_2.specs.Built.{bytes_driven}
-use Rattle.demand_1_2.specs.Kept.{transact_kept, transact_underway}
+use Rattle.demand_1_2.proofs.Kept.{transact_kept, transact_underway}
 use Rattle.demand_1_2.specs.Meant.{Spelled, Meant, Lendable, sent, wires_in, body_meant, bytes_read, faultless}
 use Rattle.demand_1_2.specs.Answered.{sent_told}
 use Rattle.demand_1_2.specs.Understood.{Understood}

@@ -35,7 +35,8 @@ use Rattle.machine_end.specs.Finish.{facts_in, outcome_of, finish_of}
 use Rattle.machine_bridge.specs.Bridge.{bridge}
 use Rattle.machine_chunks.specs.Chunks.{resume_of, resumed, opcode_after, paused_of, fed_to, run_on, outs_on, opened_world, open_of, fed_world, feed_of, closed_world, close_of}
 use Rattle.demand_1_2.specs.ExactOrder.{power_order}
-use Rattle.demand_1_2.specs.Kept.{Kept, kept_by, output_size, transact_kept, transact_underway, power_underway}
+use Rattle.demand_1_2.specs.Kept.{Kept}
+use Rattle.demand_1_2.proofs.Kept.{kept_by, output_size, transact_kept, transact_underway, power_underway}
 use Rattle.demand_3.specs.Episodes.{Chip, Call}
 use Rattle.chunks.specs.Standing.{standing}
 use Rattle.chunks.specs.Feeding.{after, fed_on, none_yet}

@@ -25,7 +25,8 @@ use Rattle.paper.specs.Storing.{Lent}
 use Rattle.contract_words.specs.Words.{Held, Taken, Run}
 use Rattle.machine_phases.specs.declared.Terms.{Terms}
 use Rattle.machine_phases.specs.Machine.{terms_of, full_at, holds, byte_for, byte_in, last_at, held, held_in, data_held, data_step, step_in, step_of, run_of}
-use Rattle.demand_1_2.specs.Kept.{SameSize, byte_size}
+use Rattle.demand_1_2.specs.Kept.{SameSize}
+use Rattle.demand_1_2.proofs.Kept.{byte_size}
 
 -- a run with something else lent to it
 abbrev lending : Progress → Lent → Run

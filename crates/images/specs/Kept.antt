@@ -57,7 +57,8 @@ use Rattle.paper.proofs.CallLaws.{by_checks, made_by, accepting, chunk_accepting
 use Rattle.machine_end.specs.Finish.{facts_in, finish_of, outcome_of}
 use Rattle.machine_chunks.specs.Chunks.{resume_of, opened_world, fed_world, closed_world, open_of, feed_of, close_of}
 use Rattle.demand_1_2.specs.Sent.{bytewise}
-use Rattle.demand_1_2.specs.Kept.{Kept, transact_kept, power_kept, fresh_kept}
+use Rattle.demand_1_2.specs.Kept.{Kept}
+use Rattle.demand_1_2.proofs.Kept.{transact_kept, power_kept, fresh_kept}
 use Rattle.chunks.specs.Kept.{byte_bits, address_bits}
 use Rattle.chunks.specs.Typed.{Eight, facts_typed}
 use Rattle.chunks.specs.Promises.{open_kept, open_typed, transact_typed, power_typed, feed_kept, feed_typed, close_kept, close_typed}
