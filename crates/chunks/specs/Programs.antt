@@ -33,7 +33,8 @@ use Rattle.demand_1_2.specs.Understood.{Understood}
 use Rattle.demand_2_driver.specs.Driver.{Driven, served}
 use Rattle.demand_3.specs.Steps.{Every}
 use Rattle.demand_3.specs.Episodes.{Chip, Call, Reply, leaves, fitted, clocked, Roomy, RoomFor, Episode, Apart, Ready}
-use Rattle.demand_3.specs.Programs.{Made, joined, Agree, any_program}
+use Rattle.demand_3.specs.Programs.{Made, joined, Agree}
+use Rattle.demand_3.proofs.Programs.{any_program}
 use Rattle.demand_3.specs.Programs.Made.{ended, call}
 use Rattle.chunks.specs.Typed.{Typed}
 use Rattle.chunks.specs.Feeding.{Left, left}

@@ -1,6 +1,5 @@
 pub mod Steps
 pub mod Bursts
-pub mod BurstLaws
 pub mod Within
 pub mod Episodes
 pub mod Bytes
