@@ -35,7 +35,7 @@ use Rattle.contract_words.specs.Words.{Run, begun}
 use Rattle.machine_phases.specs.Machine.{run_of, outs_of}
 use Rattle.machine_phases.specs.RunLaws.{run_append}
 use Rattle.machine_end.specs.Finish.{finish_of}
-use Rattle.machine_bridge.specs.Bridge.{bridge}
+use Rattle.machine_bridge.proofs.Bridge.{bridge}
 use Rattle.machine_chunks.specs.Chunks.{resume_of, resumed, opcode_after, paused_of, run_on, outs_on, fed_world, closed_world}
 use Rattle.machine_chunks.specs.Laws.{split_total}
 use Rattle.demand_3.specs.Episodes.{Chip}

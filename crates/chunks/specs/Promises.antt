@@ -32,7 +32,7 @@ use Rattle.contract_words.specs.Words.{begun}
 use Rattle.machine_phases.specs.Machine.{run_of}
 use Rattle.machine_phases.specs.RunLaws.{outs_length}
 use Rattle.machine_end.specs.Finish.{facts_in, outcome_of, finish_of}
-use Rattle.machine_bridge.specs.Bridge.{bridge}
+use Rattle.machine_bridge.proofs.Bridge.{bridge}
 use Rattle.machine_chunks.specs.Chunks.{resume_of, resumed, opcode_after, paused_of, fed_to, run_on, outs_on, opened_world, open_of, fed_world, feed_of, closed_world, close_of}
 use Rattle.demand_1_2.specs.ExactOrder.{power_order}
 use Rattle.demand_1_2.specs.Kept.{Kept}

@@ -33,7 +33,7 @@ use Rattle.paper.specs.Storing.{value_byte, take_each}
 use Rattle.paper.specs.Transaction.{sampled, sent_bytes, facts_of}
 use Rattle.paper.specs.Meanwhile.{pending_in, underway_of}
 use Rattle.paper.specs.Laws.{still}
-use Rattle.machine_bridge.specs.Phases.{data_nil}
+use Rattle.machine_bridge.proofs.Phases.{data_nil}
 use Rattle.machine_chunks.specs.Laws.{data_some}
 use Rattle.demand_1_2.specs.Sent.{bytewise, sampled_append, sampled_silent, sampled_spread}
 use Rattle.chunks.specs.Standing.{data_left, read_number}

@@ -44,8 +44,9 @@ use Rattle.machine_phases.specs.Machine.{terms_of, full_at, to_data, to_wait, to
 use Rattle.machine_end.specs.Finish.{facts_in}
 use Rattle.machine_bridge.specs.Stage.{carried}
 use Rattle.machine_bridge.specs.Taking.{taken_all}
-use Rattle.machine_bridge.specs.Phases.{Point, counts, named, placed, waited, entering, aim, body, wires, starting, tick, data_past, data_go, data_place, wait_place, address_place, outset, command_place, data_nil}
-use Rattle.machine_bridge.specs.Bridge.{facts_read}
+use Rattle.machine_bridge.specs.Phases.{Point, counts, named, placed, waited, entering, aim, body, wires, starting, tick, outset}
+use Rattle.machine_bridge.proofs.Phases.{data_past, data_go, data_place, wait_place, address_place, command_place, data_nil}
+use Rattle.machine_bridge.proofs.Bridge.{facts_read}
 use Rattle.machine_chunks.specs.Chunks.{phase_by, resume_of}
 
 -- ---- the phase and the number, which the facts of the paper do not show

@@ -31,7 +31,7 @@ use Rattle.paper.specs.Answers.{Facts}
 use Rattle.paper.specs.Transaction.{facts_of, over, clocked_of}
 use Rattle.machine_phases.specs.Machine.{run_of, outs_of}
 use Rattle.machine_end.specs.Finish.{facts_in, outcome_of, finish_of}
-use Rattle.machine_bridge.specs.Bridge.{facts_read, bridge}
+use Rattle.machine_bridge.proofs.Bridge.{facts_read, bridge}
 use Rattle.machine_run.specs.Fed.{Feedable, Fed}
 use Rattle.machine_phases.specs.RunLaws.{run_append, outs_append, outs_length, run_clocks}
 use Rattle.machine_stretches.specs.Stretches.{reach_of, place_of, upcoming, head_of, data_clocks, Passed, Advancing, Advanced, Going, Come, Ahead}
