@@ -278,6 +278,7 @@ module _ (c : Chip) (r : Ready c) where
 
   run_left : (l : List (List (List ℕ))) → Pairwise (Apart s) l → {e : List (List ℕ)} → Memᴰ e l → (m : Moving) → Fit m → (a : ℕ) → a < length c.lent.memory
       → Mem a (touched s e) → get_or (run_all (act s) m l).memory a 0 ≡ left_at (burst_of s e) a (get_or m.memory a 0)
+  run_left [] _ {e = e} x m f a i k = elim x [ ]
   run_left (b ∷ l) (Pairwise.cons h t) {e} (Memᴰ.head p) m f a i k =
       run_kept l (act s b m) a (λ x q. h x q a (subst (λ (z : List (List ℕ)). Mem a (touched s z)) p k))
       ∙ act_left b m f a i

@@ -11,7 +11,7 @@ use Rattle.contract_words.specs.Words.{world_of}
 use Rattle.demand_3.specs.Steps.{Every}
 use Rattle.demand_3.specs.Episodes.{Chip, Call, Reply, called, leaves, says, after_calls, replies, clocked, RoomFor, Episode, Apart, runs, all_replies, Ready}
 use Rattle.demand_3.proofs.Demand3.{demand_3}
-use Rattle.demand_3.specs.Programs.{Agree, Made, joined}
+use Rattle.demand_3.specs.Programs.{Agree, Made, call, ended, joined}
 
 -- the contract leaves no choice
 made_ends : {c c' : Chip} {xs : List Call} {rs : List Reply} → Made c xs rs c' → after_calls c xs ≡ c'

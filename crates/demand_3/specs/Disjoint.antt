@@ -20,6 +20,7 @@ is_among {a} (Memᴰ.head {x} {xs} e) = or_left (eqb a x) (among a xs) (eq-eqb a
 is_among {a} (Memᴰ.tail {x} {xs} m) = or_right (eqb a x) (among a xs) (is_among m)
 
 none_among : {a : ℕ} (xs ys : List ℕ) → disjoint xs ys ≡ true → Memᴰ a xs → not (among a ys) ≡ true
+none_among {a = a} [] ys d x = elim x [ ]
 none_among (x ∷ xs) ys d (Memᴰ.head e) = ap (λ (z : ℕ). not (among z ys)) e ∙ (both_true (not (among x ys)) (disjoint xs ys) d).0
 none_among (x ∷ xs) ys d (Memᴰ.tail m) = none_among xs ys (both_true (not (among x ys)) (disjoint xs ys) d).1 m
 
@@ -37,6 +38,7 @@ all_disjoint s [] = true
 all_disjoint s (e ∷ l) = each_disjoint s e l && all_disjoint s l
 
 each_apart : (s : Setting) (e : List (List ℕ)) (l : List (List (List ℕ))) → each_disjoint s e l ≡ true → {f : List (List ℕ)} → Memᴰ f l → Apart s e f
+each_apart s e [] d {f = f} x = elim x [ ]
 each_apart s e (g ∷ l) d (Memᴰ.head p) =
     subst (λ (z : List (List ℕ)). Apart s e z) (sym p) (no_common (touched s e) (touched s g) (both_true (disjoint (touched s e) (touched s g)) (each_disjoint s e l) d).0)
 each_apart s e (g ∷ l) d (Memᴰ.tail m) = each_apart s e l (both_true (disjoint (touched s e) (touched s g)) (each_disjoint s e l) d).1 m
