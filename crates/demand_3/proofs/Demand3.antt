@@ -43,21 +43,7 @@ use Rattle.demand_3.specs.Episodes.{Chip, Call, Reply, called, leaves, says, aft
 use Rattle.demand_3.specs.Calls.{quietly, relatch, world_at}
 use Rattle.demand_3.proofs.Calls.{write_call}
 use Rattle.demand_3.proofs.Steady.{enable_call}
-use Rattle.demand_3.specs.Demand3.{Fits, Moving, answer_to, chip_at, risen}
-
--- WHAT AN EPISODE DOES, whatever came before it
-act : Setting → List (List ℕ) → Moving → Moving
-act s f m =
-    record {
-      latch = after_burst s.registers.cr4 (risen (family_of s.part) m.latch);
-      armed = false;
-      memory = store (landed (burst_of s f)) m.memory;
-    }
-
-told : Setting → List Call → List Reply
-told s [] = []
-told s (x ∷ []) = quietly s x (answer_to s x.samples) ∷ []
-told s (x ∷ y ∷ e) = quietly s x Done ∷ quietly s y (answer_to s y.samples) ∷ []
+use Rattle.demand_3.specs.Demand3.{Fits, Moving, act, answer_to, chip_at, risen, told}
 
 valid_moved : (g : Family) (p : Part) (d : Device) (latch armed latch' armed' : Bool) → valid_for g p (relatch d latch armed) ≡ true → Fits g latch' → valid_for g p (relatch d latch' armed') ≡ true
 unfolding mram_volatile psram_volatile

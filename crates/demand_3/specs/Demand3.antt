@@ -4,7 +4,7 @@
 -- The proof: an episode moves the latch, the arming and memory, and nothing else (`Moving`); what it does to them (`act`) and what it is told (`told`) depend on the
 -- setting and its own samples alone. So a list of episodes is a list of such steps, and steps that touch no place in common commute.
 -- Assumes nothing.
-use Rattle.std.specs.Prelude.{◌≡◌, Bool, cond, ℕ}
+use Rattle.std.specs.Prelude.{◌≡◌, Bool, cond, ℕ, ◌∷◌, []}
 use Rattle.std.proofs.Math.Bool.{true, false}
 use mathlib.Core.List.{List}
 use Rattle.parts.specs.declared.Family.{Family}
@@ -12,9 +12,11 @@ use Rattle.parts.specs.declared.Family.TheVariants.{Mram, Psram}
 use Rattle.record.specs.declared.answers.Answer.{Answer}
 use Rattle.record.specs.declared.answers.Answer.TheVariants.{Done, Protected}
 use Rattle.record.specs.declared.devices.Setting.{Setting}
-use Rattle.demand_3.specs.Bursts.{shut_all}
-use Rattle.demand_3.specs.Episodes.{Chip, aimed}
-use Rattle.demand_3.specs.Calls.{relatch}
+use Rattle.changes.specs.Latches.{after_burst}
+use Rattle.parts.specs.Parts.{family_of}
+use Rattle.demand_3.specs.Bursts.{landed, shut_all, store}
+use Rattle.demand_3.specs.Episodes.{Call, Chip, Reply, aimed, burst_of}
+use Rattle.demand_3.specs.Calls.{quietly, relatch}
 
 -- ---- what moves
 pub record Moving : Type 0 where
@@ -30,9 +32,23 @@ abbrev pub risen : Family → Bool → Bool
 risen Mram latch = true
 risen Psram latch = latch
 
+-- WHAT AN EPISODE DOES, whatever came before it
+unfoldable pub act : Setting → List (List ℕ) → Moving → Moving
+act s f m =
+    record {
+      latch = after_burst s.registers.cr4 (risen (family_of s.part) m.latch);
+      armed = false;
+      memory = store (landed (burst_of s f)) m.memory;
+    }
+
 -- WHAT IT IS TOLD
 abbrev pub answer_to : Setting → List ℕ → Answer
 answer_to s xs = cond (shut_all (aimed s xs)) Protected Done
+
+unfoldable pub told : Setting → List Call → List Reply
+told s [] = []
+told s (x ∷ []) = quietly s x (answer_to s x.samples) ∷ []
+told s (x ∷ y ∷ e) = quietly s x Done ∷ quietly s y (answer_to s y.samples) ∷ []
 
 -- ---- a valid record stays valid: the PSRAM's latch is down, and all else that moves may be as it is
 abbrev pub Fits : Family → Bool → Type 0
