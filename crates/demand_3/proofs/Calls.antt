@@ -38,7 +38,7 @@ use Rattle.paper.specs.Transaction.{sized_for, room_for, sent_bytes, body_in, fa
 use Rattle.paper.specs.ReadingLaws.{none_driven}
 use Rattle.paper.proofs.CallLaws.{when_accepted}
 use Rattle.demand_3.specs.Bursts.{Burst, store_from, store, shut_all, landed}
-use Rattle.demand_3.specs.Bytes.{taken_so, shut_so}
+use Rattle.demand_3.proofs.Bytes.{taken_so, shut_so}
 use Rattle.demand_3.specs.Episodes.{Call, Roomy, aimed, MemoryWrite}
 use Rattle.demand_3.specs.Calls.{quietly, relatch, world_at}
 

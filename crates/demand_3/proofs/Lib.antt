@@ -4,3 +4,4 @@ pub mod Demand3
 pub mod Examples
 pub mod Programs
 pub mod Steady
+pub mod Bytes

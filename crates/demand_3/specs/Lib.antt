@@ -2,7 +2,6 @@ pub mod Steps
 pub mod Bursts
 pub mod Within
 pub mod Episodes
-pub mod Bytes
 pub mod Calls
 pub mod Steady
 pub mod Demand3
