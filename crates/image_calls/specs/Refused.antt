@@ -23,7 +23,7 @@ use Rattle.image.specs.Layout.{image_size}
 use Rattle.image.specs.Image.{image_of, record_of}
 use Rattle.image.specs.Back.{EachByte}
 use Rattle.image_check.specs.Accepted.{accepted}
-use Rattle.image_check.specs.Laws.{accepted_back}
+use Rattle.image_check.proofs.Laws.{accepted_back}
 use Rattle.image_calls.specs.Calls.{Imaged, imaged, strange_to, image_check, over_image, transact_in, power_in, open_in, feed_in, close_in}
 use Rattle.image_calls.specs.Fresh.{made_as, made}
 

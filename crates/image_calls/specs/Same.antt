@@ -10,7 +10,7 @@ use Rattle.machine_chunks.specs.Chunks.{open_of, feed_of, close_of}
 use Rattle.image.specs.Image.{image_of, record_of}
 use Rattle.image.specs.Back.{InTypes, read_back}
 use Rattle.image_check.specs.Accepted.{valid_record}
-use Rattle.image_check.specs.Laws.{image_accepted}
+use Rattle.image_check.proofs.Laws.{image_accepted}
 use Rattle.image_calls.specs.Calls.{imaged, over_image, transact_in, power_in, open_in, feed_in, close_in}
 
 module _ (d : Device) (t : InTypes d) (v : valid_record d ≡ true) (l : Lent) where

@@ -66,7 +66,7 @@ use Rattle.image.specs.Layout.{image_size}
 use Rattle.image.specs.Image.{image_of, record_of}
 use Rattle.image.specs.Back.{EachByte, InTypes}
 use Rattle.image_check.specs.Accepted.{valid_record, accepted}
-use Rattle.image_check.specs.Laws.{accepted_valid, accepted_typed, valid_state, image_accepted}
+use Rattle.image_check.proofs.Laws.{accepted_valid, accepted_typed, valid_state, image_accepted}
 use Rattle.image_calls.specs.Calls.{over_image, transact_in, power_in, open_in, feed_in, close_in}
 use Rattle.image_calls.specs.Fresh.{Made, made_as, made, fresh_mram_in, fresh_p_in}
 

@@ -2,7 +2,7 @@
 -- Assumes nothing.
 use mathlib.Core.Path.{sym, ◌∙◌}
 use mathlib.Core.List.{[]}
-use Rattle.image_check.specs.Laws.{accepted_long}
+use Rattle.image_check.proofs.Laws.{accepted_long}
 use Rattle.image_calls.specs.Calls.{close_in}
 use Rattle.image_calls.specs.Laws.{turned_away, carried}
 use Rattle.image_calls.proofs.close.Goals as goal

@@ -1,7 +1,7 @@
 -- `image_calls::feed` meets its contract: bytes that are no image, or a chunk over the record.
 -- Assumes nothing.
 use mathlib.Core.Path.{sym, ◌∙◌}
-use Rattle.image_check.specs.Laws.{accepted_long}
+use Rattle.image_check.proofs.Laws.{accepted_long}
 use Rattle.image_calls.specs.Calls.{feed_in}
 use Rattle.image_calls.specs.Laws.{turned_away, carried}
 use Rattle.image_calls.proofs.feed.Goals as goal

@@ -1,7 +1,7 @@
 -- `image_calls::transact` meets its contract: bytes that are no image, or a transaction over the record.
 -- Assumes nothing.
 use mathlib.Core.Path.{sym, ◌∙◌}
-use Rattle.image_check.specs.Laws.{accepted_long}
+use Rattle.image_check.proofs.Laws.{accepted_long}
 use Rattle.image_calls.specs.Calls.{transact_in}
 use Rattle.image_calls.specs.Laws.{turned_away, carried}
 use Rattle.image_calls.proofs.transact.Goals as goal

@@ -1,0 +1,14 @@
+-- `cabi::tondravik_gather` meets its contract: no word for the number, or what the host half tells.
+-- Assumes nothing.
+use Rattle.cabi.specs.Laws.{gather_told}
+use Rattle.cabi.specs.Fills.{gather_in}
+use borrow.Author.Tests.{ne_eqb}
+use Rattle.cabi.proofs.tondravik_gather.Goals as goal
+
+pub returns-then-number-ne-NUMBER : goal.returns-then-number-ne-NUMBER
+unfolding gather_in
+returns-then-number-ne-NUMBER c = rw (ne_eqb _ _ c.if-number-ne-NUMBER.true)
+
+pub returns : goal.returns
+unfolding gather_in
+returns c = rw (c.answer_number.ensures, c.put_number.ensures, c.in_bytes.ensures) (gather_told _ _ c.if-number-ne-NUMBER.false _ _ _ c.gather-g.ensures)
