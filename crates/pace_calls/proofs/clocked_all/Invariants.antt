@@ -1,10 +1,10 @@
--- `pace_calls::clocked_all` is safe and ends: no more calls are answered 0 than there were, and what is lent keeps its length.
+-- `pace_calls::clocked_all` is safe and ends: no more calls are answered 0 than there were.
 -- Assumes nothing.
-use Prim.Native.Nat.{◌-◌}
+use Prim.Native.Nat.{◌-◌, ◌≤◌}
 use Rattle.pace_calls.proofs.clocked_all.Given as goal
 
 abbrev pub invariant-loop-k : goal.invariant-loop-k
-invariant-loop-k l = Same l.initial.memory l.initial.area l.initial.output l.memory l.area l.output l.done l.k
+invariant-loop-k l = l.done ≤ l.k
 
 abbrev pub decreases-loop-k : goal.decreases-loop-k
 decreases-loop-k l = l.repeats - l.k
