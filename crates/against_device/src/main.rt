@@ -8,7 +8,6 @@ use against_probes::{
 };
 use bench_columns::{Printed, cut, going, stopped};
 use parts::LARGEST_MEMORY;
-use std::alloc::AllocError;
 
 // Room for the output of any probe: a generated one lends a few bytes more than 65,536.
 const OUTPUT: usize = 131072;
@@ -228,25 +227,22 @@ fn all(
     text::flush(text, t.page.place);
 }
 
-fn play(memory: &mut [u8], output: &mut [u8]) {
+// Memory and output come by value, since an argument's length is known by its type.
+fn play(mut memory: [u8; LARGEST_MEMORY], mut output: [u8; OUTPUT]) {
     let mut image = [0u8; 256];
     let mut area = io::buffer();
     let mut samples = io::large_buffer();
     let mut text = io::large_buffer();
     all(
         &mut image,
-        memory,
+        &mut memory,
         &mut area,
         &mut samples,
-        output,
+        &mut output,
         &mut text,
     );
 }
 
-// Memory and output are too much for the stack.
-fn main(rt: HostRuntime) -> Result<(), AllocError> {
-    let mut memory = vec![in rt.alloc(); 0; LARGEST_MEMORY]?;
-    let mut output = vec![in rt.alloc(); 0; OUTPUT]?;
-    play(&mut memory, &mut output);
-    Ok(())
+fn main() {
+    play([0; LARGEST_MEMORY], [0; OUTPUT]);
 }
