@@ -227,22 +227,33 @@ fn all(
     text::flush(text, t.page.place);
 }
 
-// Memory and output come by value, since an argument's length is known by its type.
-fn play(mut memory: [u8; LARGEST_MEMORY], mut output: [u8; OUTPUT]) {
+fn play(memory: &mut [u8], output: &mut [u8]) {
     let mut image = [0u8; 256];
     let mut area = io::buffer();
     let mut samples = io::large_buffer();
     let mut text = io::large_buffer();
     all(
         &mut image,
-        &mut memory,
+        memory,
         &mut area,
         &mut samples,
-        &mut output,
+        output,
         &mut text,
     );
 }
 
+// The largest memory that a chip has, and room for the output of a probe.
+fn largest() -> [u8; LARGEST_MEMORY] {
+    [0; LARGEST_MEMORY]
+}
+
+fn room() -> [u8; OUTPUT] {
+    [0; OUTPUT]
+}
+
+// Both stand on the stack once: they are lent on, and not passed.
 fn main() {
-    play([0; LARGEST_MEMORY], [0; OUTPUT]);
+    let mut memory = largest();
+    let mut output = room();
+    play(&mut memory, &mut output);
 }
