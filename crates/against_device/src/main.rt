@@ -8,7 +8,6 @@ use against_probes::{
 };
 use bench_columns::{Printed, cut, going, stopped};
 use parts::LARGEST_MEMORY;
-use std::alloc::AllocError;
 
 // Room for the output of any probe: a generated one lends a few bytes more than 65,536.
 const OUTPUT: usize = 131072;
@@ -243,10 +242,18 @@ fn play(memory: &mut [u8], output: &mut [u8]) {
     );
 }
 
-// Memory and output are too much for the stack.
-fn main(rt: HostRuntime) -> Result<(), AllocError> {
-    let mut memory = vec![in rt.alloc(); 0; LARGEST_MEMORY]?;
-    let mut output = vec![in rt.alloc(); 0; OUTPUT]?;
+// The largest memory that a chip has, and room for the output of a probe.
+fn largest() -> [u8; LARGEST_MEMORY] {
+    [0; LARGEST_MEMORY]
+}
+
+fn room() -> [u8; OUTPUT] {
+    [0; OUTPUT]
+}
+
+// Both stand on the stack once: they are lent on, and not passed.
+fn main() {
+    let mut memory = largest();
+    let mut output = room();
     play(&mut memory, &mut output);
-    Ok(())
 }

@@ -12,7 +12,6 @@ use pace_calls::{Asked, build, chip, clocked_all, fill, gathered_all, total};
 use parts::{LARGEST_AREA, LARGEST_MEMORY, Part, PartM};
 use places::memory_size;
 use record::Device;
-use std::alloc::{AllocError, Global};
 use std::env::Env;
 use text::{flush, is_same, put, put_all, put_decimal};
 use units::Clocks;
@@ -182,15 +181,14 @@ fn pace(rt: &impl Env, memory: &mut [u8], samples: &mut [u8], output: &mut [u8])
     run_sized(a, memory, samples, output);
 }
 
-// As much memory as the largest chip has. It is too much for the stack.
-fn largest(alloc: Global) -> Result<Vec<u8>, AllocError> {
-    vec![in alloc; 0; LARGEST_MEMORY]
+// The largest memory that a chip has.
+fn largest() -> [u8; LARGEST_MEMORY] {
+    [0; LARGEST_MEMORY]
 }
 
-fn main(rt: HostRuntime) -> Result<(), AllocError> {
-    let mut memory = largest(rt.alloc())?;
+fn main(rt: HostRuntime) {
+    let mut memory = largest();
     let mut samples = io::large_buffer();
     let mut output = io::large_buffer();
     pace(&rt, &mut memory, &mut samples, &mut output);
-    Ok(())
 }
