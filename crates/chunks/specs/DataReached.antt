@@ -23,7 +23,6 @@ use Rattle.kinds.specs.declared.Kind.TheVariants.{Unknown, Plain, Read, Write}
 use Rattle.commands.specs.declared.plans.Body.{Body}
 use Rattle.commands.specs.declared.plans.Body.TheVariants.{Nothing, FixedRead, AnyRead, FixedWrite, AnyWrite}
 use Rattle.commands.specs.declared.registers.Mapped.{Mapped}
-use Rattle.commands.specs.declared.registers.Mapped.TheVariants as Mapped
 use Rattle.commands.specs.Registers.{bytes_of, mapped_of}
 use Rattle.commands.specs.Plans.{writes, body_of, read_body, write_body, mapped_body}
 use Rattle.record.specs.declared.devices.Setting.{Setting}

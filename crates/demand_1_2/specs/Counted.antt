@@ -15,7 +15,7 @@ use Rattle.record.specs.declared.devices.Setting.{Setting}
 use Rattle.record.specs.Devices.{setting_of}
 use Rattle.record.specs.Answers.{refuses}
 use Rattle.paper.specs.InForce.{command_clocks, wires_for, address_clocks, wait_clocks, body_for}
-use Rattle.paper.specs.Reading.{many, data_part, rest_part, Reading, reading_of}
+use Rattle.paper.specs.Reading.{many, data_part, Reading, reading_of}
 use Rattle.paper.specs.Storing.{Lent}
 use Rattle.paper.specs.Transaction.{facts_of, clocked_of, transact_of}
 use Rattle.paper.specs.ReadingLaws.{parts_together}

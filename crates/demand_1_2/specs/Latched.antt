@@ -3,7 +3,6 @@
 -- Assumes nothing.
 use Rattle.std.specs.Prelude.{ℕ, Bool, cond, ◌||◌, eqb}
 use Rattle.std.proofs.Math.Bool.{false}
-use Rattle.kinds.specs.declared.Register.{Register}
 use Rattle.kinds.specs.declared.Target.{Target}
 use Rattle.kinds.specs.declared.Target.TheVariants as Into
 use Rattle.record.specs.declared.answers.Answer.{Answer}

@@ -24,7 +24,7 @@ use Rattle.record.specs.declared.devices.Device.{Device}
 use Rattle.record.specs.Devices.{setting_of}
 use Rattle.record.specs.declared.devices.Setting.{Setting}
 use Rattle.paper.specs.InForce.{wires_for}
-use Rattle.paper.specs.Reading.{first, many, data_part, reading_of, data_bytes}
+use Rattle.paper.specs.Reading.{first, many, reading_of, data_bytes}
 use Rattle.paper.specs.Storing.{Lent}
 use Rattle.paper.specs.Transaction.{over, transact_of}
 use Rattle.paper.specs.Building.{Order, many_bytes, too_many, sent_on, kind_asked, addressed, built_of, build_of}

@@ -5,7 +5,7 @@
 use Rattle.std.specs.Prelude.{◌≡◌, true, List, ℕ, ◌≤◌, length}
 use Rattle.std.proofs.Common.{ap, ◌∙◌, sym, subst}
 use Rattle.units.specs.declared.Clocks.{Clocks}
-use Rattle.units.specs.Units.{clocks, wires_of}
+use Rattle.units.specs.Units.{wires_of}
 use Rattle.commands.specs.Plans.{reads}
 use Rattle.record.specs.declared.answers.Answer.TheVariants.{Done}
 use Rattle.record.specs.declared.devices.Device.{Device}

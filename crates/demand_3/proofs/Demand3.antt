@@ -39,7 +39,7 @@ use Rattle.demand_3.specs.Steps.{run_all, Every, every_one, every_order, mem_map
 use Rattle.demand_3.specs.Bursts.{Burst, store_from, store, places_from, places_of, shut_all, left_at, landed}
 use Rattle.demand_3.proofs.BurstLaws.{bursts_commute, store_length, store_left, store_kept, store_shut, places_below}
 use Rattle.demand_3.specs.Within.{write_below}
-use Rattle.demand_3.specs.Episodes.{Chip, Call, Reply, called, leaves, says, after_calls, replies, samples_of, clocked, Roomy, RoomFor, fitted, aimed, MemoryWrite, Enabling, Episode, burst_of, touched, Apart, runs, all_replies, widened, alone, Ready, AnyOrder}
+use Rattle.demand_3.specs.Episodes.{Chip, Call, called, leaves, says, after_calls, replies, samples_of, clocked, Roomy, RoomFor, fitted, aimed, MemoryWrite, Enabling, Episode, burst_of, touched, Apart, runs, all_replies, widened, alone, Ready, AnyOrder}
 use Rattle.demand_3.specs.Calls.{quietly, relatch, world_at}
 use Rattle.demand_3.proofs.Calls.{write_call}
 use Rattle.demand_3.proofs.Steady.{enable_call}

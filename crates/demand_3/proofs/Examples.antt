@@ -8,7 +8,6 @@ use Rattle.std.proofs.Common.{lit≤}
 use Rattle.basis.specs.Counting.{how_many}
 use Rattle.basis.specs.Examples.{all}
 use Rattle.wires.specs.Bits.{shift_of, gather_from, spelled, group_of}
-use Rattle.parts.specs.declared.Part.TheVariants.{M, P, M32}
 use Rattle.parts.specs.Parts.{offered}
 use Rattle.kinds.specs.declared.WriteForm.TheVariants as Writes
 use Rattle.opcodes.specs.Opcodes.{meaning_of}

@@ -7,7 +7,7 @@ use mathlib.Core.List.{List, [], ◌∷◌, ◌++◌, map}
 use Rattle.paper.specs.Transaction.{transact_of}
 use Rattle.record.specs.declared.devices.Outcome.{Outcome}
 use Rattle.contract_words.specs.Words.{lends, world_of}
-use Rattle.demand_3.specs.Episodes.{Chip, Call, Reply, says, runs, alone, AnyOrder}
+use Rattle.demand_3.specs.Episodes.{Chip, Call, Reply, runs, alone, AnyOrder}
 
 -- calls that were made, what they gave back, and where they ended: each call keeps to the contract of `transact`
 pub data Made : Chip → List Call → List Reply → Chip → Type 0 where

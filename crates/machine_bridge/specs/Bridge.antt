@@ -6,7 +6,7 @@ use Rattle.record.specs.declared.devices.Device.{Device}
 use Rattle.record.specs.Devices.{setting_of}
 use Rattle.changes.specs.Changes.{settled_of}
 use Rattle.record.specs.Answers.{is_done}
-use Rattle.paper.specs.Reading.{data_part, Reading, reading_of}
+use Rattle.paper.specs.Reading.{Reading, reading_of}
 use Rattle.paper.specs.Storing.{Lent}
 use Rattle.paper.specs.Driving.{driven_at, along}
 use Rattle.paper.specs.Answers.{Facts, judge}

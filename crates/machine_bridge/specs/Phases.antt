@@ -1,7 +1,7 @@
 -- The five phases, the last one first: what the machine shows from the start of each on is what the paper reads from there.
 -- Assumes nothing.
 use Rattle.std.specs.Prelude.{◌≡◌}
-use Prim.Native.Nat.{ℕ, ◌+◌}
+use Prim.Native.Nat.{ℕ}
 use mathlib.Core.List.{List, [], ◌++◌}
 use Rattle.units.specs.declared.Clocks.{Clocks}
 use Rattle.units.specs.declared.Wires.{Wires}
@@ -26,7 +26,7 @@ use Rattle.paper.specs.Answers.{Facts}
 use Rattle.paper.specs.Transaction.{undriven}
 use Rattle.contract_words.specs.Words.{Held, Run}
 use Rattle.machine_phases.specs.Machine.{terms_of, holds}
-use Rattle.machine_bridge.specs.Stage.{Seen, seen, behind, carried}
+use Rattle.machine_bridge.specs.Stage.{Seen, behind, carried}
 use Rattle.machine_bridge.specs.Taking.{tick_for}
 
 abbrev pub none : Clocks

@@ -1,6 +1,6 @@
 -- Laws of the reading: the parts of the five phases, put together, are the samples; and so is what they drive where nothing is driven.
 -- Assumes nothing.
-use Rattle.std.specs.Prelude.{◌≡◌, refl, ℕ, ◌*◌, List, ◌++◌, length, take, drop, replicate}
+use Rattle.std.specs.Prelude.{◌≡◌, refl, ℕ, ◌*◌, List, ◌++◌, take, drop}
 use Rattle.std.proofs.Common.{ap, ◌∙◌, append-nil, length-append, take-append-drop}
 use Rattle.std.proofs.lemmas.List.{replicate-append-replicate}
 use Rattle.units.specs.declared.Wires.{Wires}

@@ -1,6 +1,6 @@
 -- A number in decimal: its digits, the most significant first, and no zero in front of another digit. Document 01, "Bench tape": offsets and counts are printed so.
 -- Assumes nothing.
-use Rattle.std.specs.Prelude.{cond, List, [], ◌∷◌, ◌++◌, ℕ, zero, suc, ◌+◌, ◌-◌, ◌/◌, ◌%◌, ltb}
+use Rattle.std.specs.Prelude.{cond, List, [], ◌∷◌, ◌++◌, ℕ, zero, suc, ◌+◌, ◌/◌, ◌%◌, ltb}
 
 -- the last digit, 0 being 48, behind those of the number without it; a number below 10 has one digit, and so many more at most are looked at
 unfoldable pub decimal_in : ℕ → ℕ → List ℕ

@@ -1,7 +1,6 @@
 -- `device_checks::is_sampled` meets its contract. The invariant: what is left of the samples decides as the whole does.
 -- Assumes nothing.
 use mathlib.Core.Path.{sym, ◌∙◌}
-use Prim.Native.Nat.{◌-◌}
 use Rattle.device_checks.specs.Laws.{sampled_stop, sampled_on, sampled_end}
 use Rattle.device_checks.proofs.is_sampled.Goals as goal
 

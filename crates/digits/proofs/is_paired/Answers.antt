@@ -1,6 +1,5 @@
 -- `digits::is_paired` meets its contract. The invariant: what is left of the word decides.
 -- Assumes nothing.
-use Prim.Native.Nat.{◌-◌}
 use borrow.Author.Tests.{ne_eqb}
 use Rattle.digits.specs.Digits.{is_paired}
 use Rattle.digits.specs.Laws.{digits_bad, digits_turn, digits_end}

@@ -1,6 +1,5 @@
 -- `digits::number_in` meets its contract. The invariant: the sum so far and what is left of the word come to the whole.
 -- Assumes nothing.
-use Prim.Native.Nat.{◌-◌}
 use borrow.Author.Tests.{ne_eqb}
 use Rattle.digits.specs.Digits.{number_of}
 use Rattle.digits.specs.Laws.{sum_bad, sum_over, sum_turn, sum_end}

@@ -1,6 +1,5 @@
 -- `digits::put_pairs` meets its contract. The invariant: the pairs that are left, put from here, come to the whole.
 -- Assumes nothing.
-use Prim.Native.Nat.{◌-◌}
 use Rattle.digits.specs.Laws.{pair_turn, pair_end}
 use Rattle.digits.proofs.put_pairs.Goals as goal
 

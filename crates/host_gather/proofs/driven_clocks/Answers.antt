@@ -1,6 +1,5 @@
 -- `host_gather::driven_clocks` meets its contract. The invariant: the clocks that are left of all of them are the driven ones so far, and those that come.
 -- Assumes nothing.
-use Prim.Native.Nat.{◌-◌}
 use Rattle.host_gather.specs.Laws.{count_skip, count_more, count_end}
 use Rattle.host_gather.proofs.driven_clocks.Goals as goal
 

@@ -1,7 +1,6 @@
 -- `host_gather::is_strange` meets its contract. The invariant: what is left of the samples decides.
 -- Assumes nothing.
 use mathlib.Core.Path.{sym, ◌∙◌}
-use Prim.Native.Nat.{◌-◌}
 use Rattle.host_gather.specs.Laws.{strange_skip, strange_stop, strange_on, strange_end}
 use Rattle.host_gather.proofs.is_strange.Goals as goal
 

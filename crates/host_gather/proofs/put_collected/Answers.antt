@@ -1,7 +1,6 @@
 -- `host_gather::put_collected` meets its contract. The invariant: the byte that is begun, with all that is left, comes to the whole.
 -- Assumes nothing.
 use mathlib.Core.Path.{refl, sym, ◌∙◌}
-use Prim.Native.Nat.{◌-◌}
 use Rattle.buffers.specs.Laws.{all_put}
 use Rattle.host_gather.specs.Laws.{none_begun, begun_skip, begun_more, begun_full, begun_end}
 use Rattle.host_gather.proofs.put_collected.Goals as goal

@@ -1,6 +1,5 @@
 -- `host_samples::put_written` meets its contract. The invariant: the bytes that are left, put from here, come to the whole.
 -- Assumes nothing.
-use Prim.Native.Nat.{◌-◌}
 use Rattle.buffers.specs.Laws.{put_some, all_put}
 use Rattle.host_samples.specs.Laws.{written_next, written_none}
 use Rattle.host_samples.proofs.put_written.Goals as goal

@@ -1,7 +1,6 @@
 -- `machine_bytes::shut_among` meets its contract. The invariant: those so far are counted.
 -- Assumes nothing.
 use mathlib.Core.Path.{refl, sym, ◌∙◌}
-use Prim.Native.Nat.{◌-◌}
 use native.Mathlib.Omega.{arith}
 use borrow.Author.Tests.{ltb-true}
 use Rattle.basis.specs.Counting.{how_many, how_many_le, counted_in, passed_over}

@@ -1,7 +1,6 @@
 -- `machine_chunks::gathered` meets its contract. The invariant: what is left of the first samples goes on from the number so far.
 -- Assumes nothing.
 use mathlib.Core.Path.{sym, ◌∙◌}
-use Prim.Native.Nat.{◌-◌}
 use Rattle.machine_chunks.specs.Laws.{gather_turn, gather_done, gather_out}
 use Rattle.machine_chunks.proofs.gathered.Goals as goal
 

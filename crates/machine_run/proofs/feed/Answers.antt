@@ -1,6 +1,5 @@
 -- `machine_run::feed` meets its contract. The invariant: what is left of the samples, done from here, comes to the whole.
 -- Assumes nothing.
-use Prim.Native.Nat.{◌-◌}
 use Rattle.machine_run.specs.Laws.{run_turn, run_end}
 use Rattle.machine_run.proofs.feed.Goals as goal
 

@@ -1,7 +1,6 @@
 -- `state_check::all_zero` meets its contract. The invariant: what is left of the bytes decides as the whole does.
 -- Assumes nothing.
 use mathlib.Core.Path.{◌≡◌, sym, ◌∙◌}
-use Prim.Native.Nat.{◌-◌}
 use native.Mathlib.Omega.{arith}
 use borrow.Author.Rules.{rules}
 use lib.ListN.{length}

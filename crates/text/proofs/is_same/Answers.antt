@@ -1,6 +1,5 @@
 -- `text::is_same` meets its contract. The invariant: what is left of both decides.
 -- Assumes nothing.
-use Prim.Native.Nat.{◌-◌}
 use Rattle.text.specs.Same.{same_length, same_bad, same_turn, same_end}
 use Rattle.text.proofs.is_same.Goals as goal
 

@@ -1,6 +1,5 @@
 -- `text::put_upper` meets its contract. The invariant: what is left of the bytes, put from here, comes to the whole.
 -- Assumes nothing.
-use Prim.Native.Nat.{◌-◌}
 use mathlib.Core.List.{map}
 use lib.ListN.{drop_of_length-le}
 use Rattle.buffers.specs.Laws.{put_one, all_put, drop_one}

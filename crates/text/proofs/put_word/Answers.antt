@@ -2,7 +2,6 @@
 -- Assumes nothing.
 use mathlib.Core.List.{[]}
 use mathlib.Core.Path.{refl}
-use Prim.Native.Nat.{◌-◌}
 use lib.ListN.{drop_of_length-le}
 use Rattle.buffers.specs.Laws.{put_one, put_some, all_put}
 use Rattle.buffers.specs.Page.{puts_of}

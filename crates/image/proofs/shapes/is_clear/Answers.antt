@@ -1,7 +1,6 @@
 -- `image::shapes::is_clear` meets its contract: what is left of the bytes decides as the whole does.
 -- Assumes nothing.
 use mathlib.Core.Path.{sym, ◌∙◌}
-use Prim.Native.Nat.{◌-◌}
 use Rattle.state_check.specs.StateLaws.{zeros_stop, zeros_on, zeros_end}
 use Rattle.image.proofs.shapes.is_clear.Goals as goal
 
