@@ -4,7 +4,6 @@
 
 use list_turns::{start, turn};
 use parts::LARGEST_AREA;
-use std::alloc::AllocError;
 use tape::LARGEST_MEMORY;
 use text::put_all;
 use units::Bytes;
@@ -57,19 +56,19 @@ fn list(tape: &[u8]) {
     );
 }
 
-fn main(rt: HostRuntime) -> Result<(), AllocError> {
-    let Some(source) = tape_input::opened(&rt)? else {
-        return Ok(());
-    };
+fn main(rt: HostRuntime) {
+    let fd = tape_input::opened(&rt);
+    if fd < 0 {
+        return;
+    }
     let mut tape = io::large_buffer();
-    let n = tape_input::read_full(&source, &mut tape);
-    if tape_input::has_more(&source) {
+    let n = io::read_full(fd, &mut tape);
+    if tape_input::has_more(fd) {
         io::write_all(
             1,
             b"The tape is over 65,536 bytes, and nothing of it is played.\n",
         );
-        return Ok(());
+        return;
     }
     list(&tape[..n]);
-    Ok(())
 }
