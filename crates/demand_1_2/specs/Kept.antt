@@ -2,6 +2,7 @@
 -- transactions and power cycles never meets answer 3, and meets answer 1 only for his clocks or his output; for `open`, `feed` and `close` `chunks: Promises` says it.
 --
 -- A command reaches only fields that its family has, because each row of the family's table is a command of that family: one computed test over the rows.
+-- The definitions stand here, the theorems in proofs/Kept.antt.
 -- Assumes nothing.
 use Rattle.std.specs.Prelude.{◌≡◌, Bool, true, false, not, List, [], ◌∷◌, ℕ, ◌/◌, ◌%◌, eqb, length, drop}
 use Rattle.parts.specs.declared.Family.{Family}

@@ -1,5 +1,6 @@
 -- LATCH (demand 2): what a write leaves of the write latch, whatever comes in. Document 01, "Commands of part M", the paragraph "Latch", with document 02's P3 in
 -- place of what it says of register writes in write mode 2. A write that is refused leaves it, too, as it was (Refused.antt).
+-- The definitions stand here, the theorems in proofs/Latched.antt.
 -- Assumes nothing.
 use Rattle.std.specs.Prelude.{ℕ, Bool, cond, ◌||◌, eqb}
 use Rattle.std.proofs.Math.Bool.{false}

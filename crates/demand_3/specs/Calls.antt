@@ -1,5 +1,6 @@
 -- One call of an episode: what a memory write and a write enable say and leave, whatever the latch, the arming and memory are. What an episode does to the record and
--- what it does to memory are two laws here, `write_moves` and `write_stores`.
+-- what it does to memory are two laws, `write_moves` and `write_stores`.
+-- The definitions stand here, the theorems in proofs/Calls.antt.
 -- Assumes nothing.
 use Rattle.std.specs.Prelude.{Bool}
 use Rattle.record.specs.declared.answers.Answer.{Answer}

@@ -1,8 +1,9 @@
 -- DEMAND 3: write episodes that touch no place in common may come in any order. Every order leaves the same record, memory and area and gives each episode the
--- same answers, and each byte holds what its own episode stores. The words of the statement are in Episodes.antt; the theorem is `demand_3`, at the end.
+-- same answers, and each byte holds what its own episode stores. The words of the statement are in Episodes.antt; the theorem is `demand_3`.
 --
 -- The proof: an episode moves the latch, the arming and memory, and nothing else (`Moving`); what it does to them (`act`) and what it is told (`told`) depend on the
 -- setting and its own samples alone. So a list of episodes is a list of such steps, and steps that touch no place in common commute.
+-- The definitions stand here, the theorems in proofs/Demand3.antt.
 -- Assumes nothing.
 use Rattle.std.specs.Prelude.{◌≡◌, Bool, cond, ℕ, ◌∷◌, []}
 use Rattle.std.proofs.Math.Bool.{true, false}

@@ -1,6 +1,7 @@
 -- DEMAND 3 IS NOT EMPTY. Lists of episodes that meet every premise, computed: on part M three of them, one that runs past the top of memory out of its protected
 -- bytes, one into protected bytes alone, one beside them; on part P two, one of which laps its group of 16 bytes; on part M32 the first two of part M's, turned round.
 -- Then a pair that shares one place, and whose order shows.
+-- The definitions stand here, the theorems in proofs/Examples.antt.
 -- Assumes nothing.
 use Rattle.std.specs.Prelude.{ℕ, Bool, true, false, ◌&&◌, List, [], ◌∷◌, ◌++◌, map, eqb, length, get_or, replicate}
 use Rattle.basis.specs.Examples.{same}

@@ -1,6 +1,7 @@
 -- DEMAND 3 FOR THE PROGRAM. `device::transact` is known here by its contract alone: of each call a result and what it leaves in the lent memory, area and output, equal to
 -- the paper's transaction. Whatever program makes the calls of the episodes, in either order and with whatever buffers, one for all calls or one for each, ends in the same
 -- record, memory and area, and gets for each episode what that episode gets alone (D66).
+-- The definitions stand here, the theorems in proofs/Programs.antt.
 -- Assumes nothing.
 use Rattle.std.specs.Prelude.{◌≡◌, ℕ}
 use mathlib.Core.List.{List, [], ◌∷◌, ◌++◌, map}

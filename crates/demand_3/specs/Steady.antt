@@ -1,4 +1,5 @@
 -- A command that is no write and no reset looks at neither latch nor arming: answered 0 once, it is answered 0 again whatever they and memory are. A write enable is one (D33).
+-- The definitions stand here, the theorems in proofs/Steady.antt.
 -- Assumes nothing.
 use Rattle.std.specs.Prelude.{◌≡◌, ℕ, false, List}
 use Rattle.units.specs.declared.Bytes.{Bytes}

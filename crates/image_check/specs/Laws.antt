@@ -1,4 +1,5 @@
 -- ACCEPTED EXACTLY: bytes are accepted where they are the image of a valid record, and nowhere else; each valid record has one image, and each image one record. Document 02, P8.
+-- The definitions stand here, the theorems in proofs/Laws.antt.
 -- Assumes nothing.
 use Rattle.std.specs.Prelude.{◌≡◌, ℕ, true, List}
 use Rattle.record.specs.declared.devices.Device.{Device}

@@ -1,5 +1,6 @@
 -- THE BRIDGE: running the machine over all samples and finishing leaves what the paper's transaction leaves, for every record, memory, area, list of samples and
 -- output buffer (D23).
+-- The definitions stand here, the theorems in proofs/Bridge.antt.
 -- Assumes nothing.
 use Rattle.std.specs.Prelude.{ℕ, Bool, cond, List}
 use Rattle.record.specs.declared.devices.Device.{Device}

@@ -1,4 +1,5 @@
 -- The five phases, the last one first: what the machine shows from the start of each on is what the paper reads from there.
+-- The definitions stand here, the theorems in proofs/Phases.antt.
 -- Assumes nothing.
 use Rattle.std.specs.Prelude.{◌≡◌}
 use Prim.Native.Nat.{ℕ}

@@ -1,4 +1,5 @@
 -- A call that is refused, and one that passes its checks: once for any list of checks, and then in the words of each call (D54).
+-- The definitions stand here, the theorems in proofs/CallLaws.antt.
 -- Assumes nothing.
 use Rattle.std.specs.Prelude.{◌≡◌, ℕ, Bool, true, false, List}
 use Rattle.basis.specs.Decisions.{Among}

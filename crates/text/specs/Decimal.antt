@@ -1,4 +1,5 @@
 -- A number in decimal: its digits, the most significant first, and no zero in front of another digit. Document 01, "Bench tape": offsets and counts are printed so.
+-- The definitions stand here, the theorems in proofs/Decimal.antt.
 -- Assumes nothing.
 use Rattle.std.specs.Prelude.{cond, List, [], ◌∷◌, ◌++◌, ℕ, zero, suc, ◌+◌, ◌/◌, ◌%◌, ltb}
 
