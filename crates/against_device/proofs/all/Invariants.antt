@@ -1,4 +1,4 @@
--- `against_device::all` is safe and ends: the probes are counted, and what is lent keeps its length.
+-- `against_device::all` is safe and ends: the probes are counted.
 -- Assumes nothing.
 use Prim.Native.Nat.{◌-◌}
 use Rattle.against_device.proofs.all.Given as goal
