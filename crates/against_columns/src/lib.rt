@@ -3,13 +3,13 @@
 
 use bench_columns::{column, digest_column, five};
 use counts::Counts;
-use record::{Answer, Device, answer_number, is_refusal};
+use record::{Answer, Device, is_refusal};
 use text::{put, put_all, put_bytes, put_decimal, put_hex, put_word};
 
 // The number of a call, its answer and its five counts.
 pub fn call_columns(text: &mut [u8], at: usize, k: u64, answer: Answer, counts: Counts) -> usize {
     let a = put_decimal(text, at, k);
-    let b = column(text, a, answer_number(answer) as u64);
+    let b = column(text, a, u8::from(answer) as u64);
     five(text, b, counts)
 }
 

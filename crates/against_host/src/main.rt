@@ -8,7 +8,6 @@ use against_input::is_taken;
 use bench_columns::{Printed, column, cut, digest_column, fill, going, stopped};
 use buffers::number_of;
 use host_order::Order;
-use record::answer_number;
 use text::{put, put_decimal};
 use units::Bytes;
 
@@ -79,7 +78,7 @@ fn build(r: Request, written: &[u8], samples: &mut [u8]) -> Told {
     let answer = b.answer;
     let clocks = b.clocks;
     Told {
-        answer: answer_number(answer),
+        answer: u8::from(answer),
         number: clocks.in_clocks(),
     }
 }
@@ -89,7 +88,7 @@ fn gather(wires: u8, driven: &[u8], bytes: &mut [u8]) -> Told {
     let answer = g.answer;
     let count = g.bytes;
     Told {
-        answer: answer_number(answer),
+        answer: u8::from(answer),
         number: count.in_bytes(),
     }
 }

@@ -6,7 +6,7 @@ ghost use Rattle.buffers.specs.Page.{page, puts_of};
 ghost use Rattle.bench_lines.specs.Lines.{header_text, line_of, last_line_of, verdict_of};
 
 use bench_columns::{column, five};
-use record::{Outcome, answer_number};
+use record::Outcome;
 use tape::Entry;
 use text::{put, put_all, put_decimal};
 
@@ -23,7 +23,7 @@ pub fn line(text: &mut [u8], at: usize, k: u64, o: Outcome) -> usize
 {
     let answer = o.answer;
     let counts = o.counts;
-    let n = answer_number(answer);
+    let n = u8::from(answer);
     let a = put_decimal(text, at, k);
     let b = column(text, a, n as u64);
     let c = five(text, b, counts);

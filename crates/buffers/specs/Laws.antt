@@ -15,6 +15,15 @@ unfolding puts_of
 puts_append [] ys p = refl
 puts_append (x ∷ xs) ys p = puts_append xs ys (put_of x p)
 
+-- the buffer keeps its length
+pub put_long : (b : ℕ) (p : Page) → length (put_of b p).buffer ≡ length p.buffer
+unfolding put_of
+put_long b p = by (ltb p.at (length p.buffer))
+  where
+    by : (room : Bool) → length (cond room (page (p.at + 1) (set p.buffer p.at b)) p).buffer ≡ length p.buffer
+    by true = length-set p.buffer p.at b
+    by false = refl
+
 -- ON THE WAY: the bytes ys, put on the page p, come to what xs come to on the page before. The buffer keeps its length.
 pub record Left (xs : List ℕ) (before : Page) (ys : List ℕ) (p : Page) : Type 0 where
   pub left : puts_of ys p ≡ puts_of xs before
@@ -31,6 +40,10 @@ module _ {xs : List ℕ} {before : Page} {ys : List ℕ} {p : Page} (f : Left xs
   pub put_one : {b : ℕ} {rest : List ℕ} {q : Page} → ys ≡ b ∷ rest → q ≡ put_of b p → length q.buffer ≡ length p.buffer → Left xs before rest q
   unfolding puts_of
   put_one {b} e d l = put_some (b ∷ []) e d l
+
+  -- the same of a byte put by its definition
+  pub put_next : {b : ℕ} {rest : List ℕ} {q : Page} → ys ≡ b ∷ rest → q ≡ put_of b p → Left xs before rest q
+  put_next {b} e d = put_one e d (ap (λ (r : Page). length r.buffer) d ∙ put_long b p)
 
   pub all_put : ys ≡ [] → p ≡ puts_of xs before
   unfolding puts_of

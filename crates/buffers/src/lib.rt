@@ -1,40 +1,87 @@
-// Bytes gathered in a lent buffer: they are put at a place, and the place behind them comes back. What finds no room
-// is left out, and the place stays.
+// A page: bytes gathered in a lent buffer, one after the other. What finds no room is left out, and the place stays.
 #![tactic(auto)]
 
 ghost use Rattle.std.specs.Prelude.{◌≡◌, ◌+◌, ◌*◌};
 ghost use Rattle.buffers.specs.Page.{page, put_of, puts_of};
+ghost use Rattle.buffers.specs.Shown.{shown};
 
-// One byte.
-pub fn put(buffer: &mut [u8], at: usize, b: u8) -> usize
-    ensures { page result buffer.new ≡ put_of b (page at buffer.old) }
-{
-    if at < buffer.len() {
-        buffer[at] = b;
-        return at + 1;
-    }
-    at
+use std::fmt;
+
+// The buffer, and the place where the next byte goes.
+pub struct Page<'a> {
+    bytes: &'a mut [u8],
+    at: usize,
 }
 
-// Bytes, one after the other.
-pub fn put_all(buffer: &mut [u8], at: usize, bytes: &[u8]) -> usize
-    ensures { page result buffer.new ≡ puts_of bytes.now (page at buffer.old) }
-{
-    let mut to = at;
-    let mut i = 0;
-    while i < bytes.len() {
-        let b = bytes[i];
-        to = put(buffer, to, b);
-        i += 1;
+impl<'a> Page<'a> {
+    // From a place of a buffer on.
+    pub fn begun(bytes: &'a mut [u8], at: usize) -> Page<'a>
+        ensures same_buffer { result.bytes.ghost_name ≡ bytes.entry.ghost_name }
+        ensures begun { shown result ≡ page at bytes.old }
+    {
+        Page { bytes, at }
     }
-    to
+}
+
+impl Page<'_> {
+    // The place where the next byte goes.
+    pub fn place(&self) -> usize
+        ensures { result ≡ self.now.at }
+    {
+        self.at
+    }
+
+    // One byte.
+    pub fn put(&mut self, b: u8)
+        ensures same_buffer { self.new.bytes.ghost_name ≡ self.old.bytes.ghost_name }
+        ensures put { shown self.new ≡ put_of b (shown self.old) }
+    {
+        if self.at < self.bytes.len() {
+            self.bytes[self.at] = b;
+            self.at += 1;
+        }
+    }
+
+    // Bytes, one after the other.
+    pub fn put_all(&mut self, bytes: &[u8])
+        ensures same_buffer { self.new.bytes.ghost_name ≡ self.old.bytes.ghost_name }
+        ensures put { shown self.new ≡ puts_of bytes.now (shown self.old) }
+    {
+        for b in bytes {
+            self.put(*b);
+        }
+    }
+
+    // What stands before the place, and nothing where that is past the buffer.
+    pub fn written(&self) -> &[u8] {
+        self.bytes.get(..self.at).unwrap_or(&[])
+    }
+
+    // The next byte goes to the front.
+    pub fn clear(&mut self)
+        ensures same_buffer { self.new.bytes.ghost_name ≡ self.old.bytes.ghost_name }
+        ensures cleared { shown self.new ≡ page 0 self.old.bytes.now }
+    {
+        self.at = 0;
+    }
+
+    // Whether more than half of the buffer is full.
+    pub fn is_half_full(&self) -> bool {
+        self.bytes.len() / 2 < self.at
+    }
+}
+
+// Text by `write!`, which never fails: what finds no room is left out.
+impl fmt::Write for Page<'_> {
+    fn write_str(&mut self, s: &str) -> fmt::Result {
+        self.put_all(s.as_bytes());
+        Ok(())
+    }
 }
 
 // The number that four bytes are, the lowest first.
 pub fn number_of(a: u8, b: u8, c: u8, d: u8) -> u32
     ensures { result ≡ a + 256 * b + 65536 * (c + 256 * d) }
 {
-    let low = a as u32 + 256 * (b as u32);
-    let high = c as u32 + 256 * (d as u32);
-    low + 65536 * high
+    u32::from_le_bytes([a, b, c, d])
 }

@@ -11,7 +11,6 @@ ghost use Rattle.cabi.specs.Fills.{filled_as, order_in, build_in, gather_in};
 use host_order::Order;
 use image_calls::Reply;
 use image_check::is_accepted;
-use record::answer_number;
 use units::Bytes;
 use words::{COUNTS, NUMBER, put_counts, put_number};
 
@@ -25,7 +24,7 @@ const STATE: u8 = 3;
 pub extern "C" fn tondravik_fresh_m(n: u8, device: &[u8], unique: &[u8], image: &mut [u8]) -> u8
     ensures { numbered_as result image.new ≡ fresh_m_from n device.now unique.now image.old }
 {
-    answer_number(image_calls::fresh_m(n, device, unique, image))
+    u8::from(image_calls::fresh_m(n, device, unique, image))
 }
 
 // A fresh chip of part M32.
@@ -33,7 +32,7 @@ pub extern "C" fn tondravik_fresh_m(n: u8, device: &[u8], unique: &[u8], image: 
 pub extern "C" fn tondravik_fresh_m32(n: u8, device: &[u8], unique: &[u8], image: &mut [u8]) -> u8
     ensures { numbered_as result image.new ≡ fresh_m32_from n device.now unique.now image.old }
 {
-    answer_number(image_calls::fresh_m32(n, device, unique, image))
+    u8::from(image_calls::fresh_m32(n, device, unique, image))
 }
 
 // A fresh chip of part P.
@@ -41,7 +40,7 @@ pub extern "C" fn tondravik_fresh_m32(n: u8, device: &[u8], unique: &[u8], image
 pub extern "C" fn tondravik_fresh_p(n: u8, device: &[u8], image: &mut [u8]) -> u8
     ensures { numbered_as result image.new ≡ fresh_p_from n device.now image.old }
 {
-    answer_number(image_calls::fresh_p(n, device, image))
+    u8::from(image_calls::fresh_p(n, device, image))
 }
 
 // The answer of a call that has not the words for its counts: 3 comes first here too.
@@ -61,7 +60,7 @@ fn tell(r: Reply, counts: &mut [usize]) -> u8
     let c = r.counts;
     let v = r.answer;
     put_counts(c, counts);
-    answer_number(v)
+    u8::from(v)
 }
 
 // A transaction.
@@ -90,7 +89,7 @@ pub extern "C" fn tondravik_power_cycle(image: &mut [u8], memory: &mut [u8], are
 {
     let r = image_calls::power_cycle(image, memory, area);
     let v = r.answer;
-    answer_number(v)
+    u8::from(v)
 }
 
 // Select goes low. No clock is counted.
@@ -100,7 +99,7 @@ pub extern "C" fn tondravik_open(image: &mut [u8], memory: &[u8], area: &[u8]) -
 {
     let r = image_calls::open(image, memory, area);
     let v = r.answer;
-    answer_number(v)
+    u8::from(v)
 }
 
 // The next clocks of the open transaction. They are counted when it is closed.
@@ -116,7 +115,7 @@ pub extern "C" fn tondravik_feed(
 {
     let r = image_calls::feed(image, memory, area, samples, output);
     let v = r.answer;
-    answer_number(v)
+    u8::from(v)
 }
 
 // Select goes high: the answer and the counts of all clocks since select went low.
@@ -166,7 +165,7 @@ pub extern "C" fn tondravik_build(
     let n = b.clocks;
     put_number(n.in_clocks(), clocks);
     let v = b.answer;
-    answer_number(v)
+    u8::from(v)
 }
 
 // The bytes of what the device drove on so many wires, and how many they are.
@@ -186,5 +185,5 @@ pub extern "C" fn tondravik_gather(
     let n = g.bytes;
     put_number(n.in_bytes(), number);
     let v = g.answer;
-    answer_number(v)
+    u8::from(v)
 }

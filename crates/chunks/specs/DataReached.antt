@@ -1,6 +1,6 @@
 -- REACHED, the data: samples that leave a given number and a given value. Document 02, P1.
 -- Assumes nothing.
-use Rattle.std.specs.Prelude.{◌≡◌, refl, ℕ, zero, suc, ◌+◌, ◌-◌, ◌*◌, ◌/◌, ◌%◌, ◌^◌, ◌<◌, ◌≤◌, Bool, true, false, cond, List, [], ◌∷◌, ◌++◌, ltb, length, take, drop, set, replicate}
+use Rattle.std.specs.Prelude.{◌≡◌, refl, ℕ, zero, suc, ◌+◌, ◌-◌, ◌*◌, ◌/◌, ◌%◌, ◌^◌, ◌<◌, ◌≤◌, Bool, true, false, cond, List, [], ◌∷◌, ◌++◌, ltb, length, take, drop, set, replicate, Option, Some, None}
 use Rattle.std.proofs.Common.{sym, ◌∙◌, add-zero, mod-lt, mul-div_cancel, div-add-mod', arith, append-nil, append_assoc, lit≤, length-drop, length-append, take-append-drop, take_all, take_at, drop_at, length-take-le, ltb-true, ltb-false}
 use Rattle.std.proofs.Math.Path.{ap}
 use Rattle.std.proofs.lemmas.List.{length-replicate, replicate-append-replicate}
@@ -22,7 +22,6 @@ use Rattle.kinds.specs.declared.Kind.{Kind}
 use Rattle.kinds.specs.declared.Kind.TheVariants.{Unknown, Plain, Read, Write}
 use Rattle.commands.specs.declared.plans.Body.{Body}
 use Rattle.commands.specs.declared.plans.Body.TheVariants.{Nothing, FixedRead, AnyRead, FixedWrite, AnyWrite}
-use Rattle.commands.specs.declared.registers.Mapped.{Mapped}
 use Rattle.commands.specs.Registers.{bytes_of, mapped_of}
 use Rattle.commands.specs.Plans.{writes, body_of, read_body, write_body, mapped_body}
 use Rattle.record.specs.declared.devices.Setting.{Setting}
@@ -250,9 +249,9 @@ register_few At.Serial = lit≤ tt
 register_few At.ModeRegister = lit≤ tt
 register_few At.LongIdentity = lit≤ tt
 
-mapped_few : (p : Part) (x : Mapped) → fixed_bytes (mapped_body x) ≤ 8
-mapped_few p (Mapped.At r) = lit≤ tt
-mapped_few p Mapped.Nowhere = lit≤ tt
+mapped_few : (p : Part) (x : Option Register) → fixed_bytes (mapped_body x) ≤ 8
+mapped_few p (Some r) = lit≤ tt
+mapped_few p None = lit≤ tt
 
 read_few : (p : Part) (x : Source) (a : ℕ) → fixed_bytes (read_body p x a) ≤ 8
 read_few p (From.Register r) a = lit≤ tt

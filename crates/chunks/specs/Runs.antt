@@ -11,8 +11,8 @@ use Rattle.units.specs.Units.{whole_of}
 use Rattle.wires.specs.Bits.{shift_of}
 use Rattle.commands.specs.declared.plans.Body.{Body}
 use Rattle.commands.specs.Plans.{writes}
-use Rattle.progress.specs.declared.Phase.{Phase}
-use Rattle.progress.specs.declared.Phase.TheVariants.{Command, Address, Wait, Data, Rest}
+use Rattle.counts.specs.declared.Phase.{Phase}
+use Rattle.counts.specs.declared.Phase.TheVariants.{Command, Address, Wait, Data, Rest}
 use Rattle.progress.specs.declared.Tally.{Tally}
 use Rattle.progress.specs.declared.Progress.{Progress}
 use Rattle.progress.specs.Progress.{entered, onward}

@@ -23,8 +23,8 @@ use Rattle.commands.specs.declared.plans.Body.{Body}
 use Rattle.commands.specs.declared.plans.Body.TheVariants.{Nothing, FixedRead, AnyRead, FixedWrite, AnyWrite}
 use Rattle.commands.specs.Plans.{writes}
 use Rattle.counts.specs.Counts.{counted, rest_tick}
-use Rattle.progress.specs.declared.Phase.{Phase}
-use Rattle.progress.specs.declared.Phase.TheVariants.{Command, Address, Wait, Data, Rest}
+use Rattle.counts.specs.declared.Phase.{Phase}
+use Rattle.counts.specs.declared.Phase.TheVariants.{Command, Address, Wait, Data, Rest}
 use Rattle.progress.specs.declared.Tally.{Tally}
 use Rattle.progress.specs.declared.Progress.{Progress}
 use Rattle.progress.specs.Progress.{counting, entered}

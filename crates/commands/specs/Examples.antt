@@ -1,18 +1,17 @@
 -- The register map of each part, in the papers' own addresses: of parts 1 and 2 document 01's ("Register addresses for 65"), of part 3 those of its source
 -- document, Table 6 (document 02, P4).
-use Rattle.std.specs.Prelude.{Bool, List, [], ◌∷◌, map, ℕ, T}
+use Rattle.std.specs.Prelude.{Bool, List, [], ◌∷◌, map, ℕ, T, Option, Some, None}
+use Rattle.kinds.specs.declared.Register.{Register}
 use Rattle.basis.specs.Examples.{all, same}
 use Rattle.basis.specs.Rows.{keys}
 use Rattle.parts.specs.declared.Part.{Part}
 use Rattle.parts.specs.declared.Part.TheVariants.{M, P, M32}
-use Rattle.commands.specs.declared.registers.Mapped.{Mapped}
-use Rattle.commands.specs.declared.registers.Mapped.TheVariants.{At, Nowhere}
 use Rattle.commands.specs.Registers.{bytes_of, table_place, map_of, mapped_of}
 
 -- what 65 finds at an address: the register's place in the tables and its bytes, or nothing
-abbrev found : Mapped → List ℕ
-found (At r) = table_place r ∷ (bytes_of r).0 ∷ []
-found Nowhere = []
+abbrev found : Option Register → List ℕ
+found (Some r) = table_place r ∷ (bytes_of r).0 ∷ []
+found None = []
 
 -- status, the four configurations, identity and unique number
 abbrev common : Part → Bool

@@ -1,6 +1,7 @@
 -- The plan of a command: on which wires it travels, what its address names, how long it waits, what its data is. Document 01, the columns of the
 -- two command tables and the paragraphs below them.
-use Rattle.std.specs.Prelude.{ℕ, ◌+◌, ◌*◌, ◌%◌, Bool, true, false, List, [], ◌∷◌, ◌++◌, eqb, get_or}
+use Rattle.std.specs.Prelude.{ℕ, ◌+◌, ◌*◌, ◌%◌, Bool, true, false, List, [], ◌∷◌, ◌++◌, eqb, get_or, Option, Some, None}
+use Rattle.kinds.specs.declared.Register.{Register}
 use Rattle.units.specs.declared.Clocks.{Clocks}
 use Rattle.units.specs.declared.Wires.{Wires}
 use Rattle.units.specs.declared.Wires.TheVariants as On
@@ -15,8 +16,6 @@ use Rattle.kinds.specs.declared.Target.{Target}
 use Rattle.kinds.specs.declared.Target.TheVariants as Into
 use Rattle.kinds.specs.declared.Kind.{Kind}
 use Rattle.kinds.specs.declared.Kind.TheVariants.{Unknown, Plain, Read, Write}
-use Rattle.commands.specs.declared.registers.Mapped.{Mapped}
-use Rattle.commands.specs.declared.registers.Mapped.TheVariants.{At, Nowhere}
 use Rattle.commands.specs.declared.plans.Address.{Address}
 use Rattle.commands.specs.declared.plans.Address.TheVariants.{Absent, InMemory, InArea, InMap, LowNibbleZero, Ignored}
 use Rattle.commands.specs.declared.plans.Body.{Body}
@@ -102,9 +101,9 @@ address_of (Write (Into.Memory r)) = InMemory
 address_of (Write Into.Area) = InArea
 
 -- 65 reads as many bytes as the register at its address has
-abbrev pub mapped_body : Mapped → Body
-mapped_body (At r) = FixedRead (bytes_of r)
-mapped_body Nowhere = Nothing
+abbrev pub mapped_body : Option Register → Body
+mapped_body (Some r) = FixedRead (bytes_of r)
+mapped_body None = Nothing
 
 abbrev pub read_body : Part → Source → ℕ → Body
 read_body p (From.Register r) address = FixedRead (bytes_of r)

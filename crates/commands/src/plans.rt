@@ -2,13 +2,13 @@
 ghost use Rattle.std.specs.Prelude.{◌≡◌};
 ghost use Rattle.commands.specs.Plans.{column_of, wait_row, waits_by_register, wait_of, later_wires, address_of, mapped_body, read_body, write_body, body_of, writes};
 
-use crate::registers::{Mapped, register_at, size_of};
+use crate::registers::{register_at, size_of};
 use kinds::{Kind, ReadForm, Register, Source, Target, WriteForm};
 use parts::Part;
 use units::{Bytes, Clocks, Wires};
 
 // What the address of a command names, if it has one.
-#[derive(Clone, Copy)]
+#[derive(Clone, Copy, PartialEq, Eq)]
 pub enum Address {
     Absent,
     InMemory,
@@ -19,7 +19,7 @@ pub enum Address {
 }
 
 // The data of a command: none, so many bytes, or as many as are clocked.
-#[derive(Clone, Copy)]
+#[derive(Clone, Copy, PartialEq, Eq)]
 pub enum Body {
     Nothing,
     FixedRead(Bytes),
@@ -145,12 +145,12 @@ pub fn address_of(k: Kind) -> Address
 }
 
 // The data of a register read by address: as long as the register that the address names.
-fn mapped_body(m: Mapped) -> Body
+fn mapped_body(m: Option<Register>) -> Body
     ensures { result ≡ mapped_body m }
 {
     match m {
-        Mapped::At(r) => Body::FixedRead(size_of(r)),
-        Mapped::Nowhere => Body::Nothing,
+        Some(r) => Body::FixedRead(size_of(r)),
+        None => Body::Nothing,
     }
 }
 

@@ -1,7 +1,6 @@
 // Registers: how many bytes each has, and where 65h finds it.
 ghost use Rattle.std.specs.Prelude.{◌≡◌};
 ghost use Rattle.basis.specs.Rows.{look};
-ghost use Rattle.commands.specs.declared.registers.Mapped.TheVariants.{Nowhere};
 ghost use Rattle.commands.specs.Registers.{table_place, bytes_of, mram_map, mapped_of};
 ghost use Rattle.parts.specs.declared.Part.TheVariants.{M32};
 
@@ -39,46 +38,39 @@ pub fn size_of(r: Register) -> Bytes
     Bytes::stated(SIZES[number_of(r)])
 }
 
-// What 65h finds at an address.
-#[derive(Clone, Copy)]
-pub enum Mapped {
-    At(Register),
-    Nowhere,
-}
-
-// The register at an address of the part's register map.
-pub fn register_at(part: Part, address: u32) -> Mapped
+// The register that 65h finds at an address of the part's register map.
+pub fn register_at(part: Part, address: u32) -> Option<Register>
     ensures { result ≡ mapped_of part address }
 {
     match part {
         Part::M => register_of_mram(address),
-        Part::P => Mapped::Nowhere,
+        Part::P => None,
         Part::M32 => register_of_m32(address),
     }
 }
 
 // What is in the map of every part of the MRAM.
-fn register_of_mram(address: u32) -> Mapped
-    ensures { result ≡ look Nowhere mram_map address }
+fn register_of_mram(address: u32) -> Option<Register>
+    ensures { result ≡ look None mram_map address }
 {
     match address {
-        0x00 => Mapped::At(Register::Status),
-        0x02 => Mapped::At(Register::Configuration1),
-        0x03 => Mapped::At(Register::Configuration2),
-        0x04 => Mapped::At(Register::Configuration3),
-        0x05 => Mapped::At(Register::Configuration4),
-        0x30 => Mapped::At(Register::Identity),
-        0x40 => Mapped::At(Register::Unique),
-        _ => Mapped::Nowhere,
+        0x00 => Some(Register::Status),
+        0x02 => Some(Register::Configuration1),
+        0x03 => Some(Register::Configuration2),
+        0x04 => Some(Register::Configuration3),
+        0x05 => Some(Register::Configuration4),
+        0x30 => Some(Register::Identity),
+        0x40 => Some(Register::Unique),
+        _ => None,
     }
 }
 
 // Part M32: the serial number, and otherwise what every part has.
-fn register_of_m32(address: u32) -> Mapped
+fn register_of_m32(address: u32) -> Option<Register>
     ensures { result ≡ mapped_of M32 address }
 {
     match address {
-        0x80 => Mapped::At(Register::Serial),
+        0x80 => Some(Register::Serial),
         _ => register_of_mram(address),
     }
 }

@@ -3,6 +3,8 @@ use Rattle.std.specs.Prelude.{◌+◌}
 use Rattle.units.specs.declared.Clocks.{Clocks}
 use Rattle.units.specs.Units.{clocks, next}
 use Rattle.counts.specs.declared.Counts.{Counts}
+use Rattle.counts.specs.declared.Phase.{Phase}
+use Rattle.counts.specs.declared.Phase.TheVariants.{Command, Address, Wait, Data, Rest}
 
 abbrev pub counted : Clocks → Clocks → Clocks → Clocks → Clocks → Counts
 counted c a w b r = record { command = c; address = a; wait = w; body = b; rest = r }
@@ -29,3 +31,10 @@ body_tick c = counted c.command c.address c.wait (next c.body) c.rest
 
 abbrev pub rest_tick : Counts → Counts
 rest_tick c = counted c.command c.address c.wait c.body (next c.rest)
+
+abbrev pub tick : Phase → Counts → Counts
+tick Command c = command_tick c
+tick Address c = address_tick c
+tick Wait c = wait_tick c
+tick Data c = body_tick c
+tick Rest c = rest_tick c

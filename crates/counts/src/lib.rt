@@ -1,13 +1,23 @@
-// The five clock counts that every answer carries, in the papers' order.
+// The five clock counts that every answer carries, in the papers' order, and the phases whose clocks they count.
 #![tactic(auto)]
 
 ghost use Rattle.std.specs.Prelude.{◌≡◌, ◌<◌, ◌≤◌};
-ghost use Rattle.counts.specs.Counts.{no_counts, total, command_tick, address_tick, wait_tick, body_tick, rest_tick};
+ghost use Rattle.counts.specs.Counts.{no_counts, total, tick};
 
 use units::Clocks;
 
+// The phases of a transaction, in their order.
+#[derive(Clone, Copy, PartialEq, Eq)]
+pub enum Phase {
+    Command,
+    Address,
+    Wait,
+    Data,
+    Rest,
+}
+
 // `body` counts the data clocks.
-#[derive(Clone, Copy)]
+#[derive(Clone, Copy, PartialEq, Eq)]
 pub struct Counts {
     pub command: Clocks,
     pub address: Clocks,
@@ -16,7 +26,6 @@ pub struct Counts {
     pub rest: Clocks,
 }
 
-// Each tick counts one clock of its phase. No transaction has more than 65,535.
 impl Counts {
     pub fn none() -> Self
         ensures { result ≡ no_counts }
@@ -36,56 +45,21 @@ impl Counts {
         requires { (total self).0 ≤ 65535 }
         ensures { result ≡ total self }
     {
-        let command = self.command;
-        let address = self.address;
-        let wait = self.wait;
-        let body = self.body;
-        let rest = self.rest;
-        command.plus(address).plus(wait).plus(body).plus(rest)
+        self.command + self.address + self.wait + self.body + self.rest
     }
 
-    pub fn command_tick(mut self) -> Self
+    // One clock more of a phase. No transaction has more than 65,535.
+    pub fn tick(mut self, phase: Phase) -> Self
         requires { (total self).0 < 65535 }
-        ensures { result ≡ command_tick self }
+        ensures { result ≡ tick phase self }
     {
-        let so_far = self.command;
-        self.command = so_far.next();
-        self
-    }
-
-    pub fn address_tick(mut self) -> Self
-        requires { (total self).0 < 65535 }
-        ensures { result ≡ address_tick self }
-    {
-        let so_far = self.address;
-        self.address = so_far.next();
-        self
-    }
-
-    pub fn wait_tick(mut self) -> Self
-        requires { (total self).0 < 65535 }
-        ensures { result ≡ wait_tick self }
-    {
-        let so_far = self.wait;
-        self.wait = so_far.next();
-        self
-    }
-
-    pub fn body_tick(mut self) -> Self
-        requires { (total self).0 < 65535 }
-        ensures { result ≡ body_tick self }
-    {
-        let so_far = self.body;
-        self.body = so_far.next();
-        self
-    }
-
-    pub fn rest_tick(mut self) -> Self
-        requires { (total self).0 < 65535 }
-        ensures { result ≡ rest_tick self }
-    {
-        let so_far = self.rest;
-        self.rest = so_far.next();
+        match phase {
+            Phase::Command => self.command = self.command.next(),
+            Phase::Address => self.address = self.address.next(),
+            Phase::Wait => self.wait = self.wait.next(),
+            Phase::Data => self.body = self.body.next(),
+            Phase::Rest => self.rest = self.rest.next(),
+        }
         self
     }
 }

@@ -1,6 +1,6 @@
 -- What the code's types say of a record and of what is lent: every number in them is a byte. So is then all that a command reads.
 -- Assumes nothing.
-use Rattle.std.specs.Prelude.{◌≡◌, ℕ, zero, suc, ◌<◌, Bool, true, false, List, [], ◌∷◌, ltb, get_or, replicate}
+use Rattle.std.specs.Prelude.{◌≡◌, ℕ, zero, suc, ◌<◌, Bool, true, false, List, [], ◌∷◌, ltb, get_or, replicate, Option, Some, None}
 use Rattle.std.proofs.Common.{arith, ltb-true}
 use Rattle.std.proofs.Math.Dec.{lit<}
 use Rattle.basis.specs.Truth.{both_true}
@@ -10,8 +10,6 @@ use Rattle.kinds.specs.declared.Register.TheVariants.{Status, AreaProtection, Co
 use Rattle.kinds.specs.declared.Source.TheVariants as From
 use Rattle.kinds.specs.declared.Kind.{Kind}
 use Rattle.kinds.specs.declared.Kind.TheVariants.{Unknown, Plain, Read, Write}
-use Rattle.commands.specs.declared.registers.Mapped.{Mapped}
-use Rattle.commands.specs.declared.registers.Mapped.TheVariants.{At, Nowhere}
 use Rattle.commands.specs.Registers.{mapped_of}
 use Rattle.record.specs.declared.devices.Device.{Device}
 use Rattle.record.specs.Devices.{setting_of}
@@ -80,9 +78,9 @@ module _ (d : Device) (l : Lent) (w : Bytewise d l) where
   shown_at ModeRegister i = one_at _ w.mr0 i.0
   shown_at LongIdentity i = byte_at_lem d.identity.device i.0 w.device
 
-  mapped_at : (m : Mapped) (i : Bytes) → mapped_byte d m i < 256
-  mapped_at (At r) i = shown_at r i
-  mapped_at Nowhere i = lit< tt
+  mapped_at : (m : Option Register) (i : Bytes) → mapped_byte d m i < 256
+  mapped_at (Some r) i = shown_at r i
+  mapped_at None i = lit< tt
 
   -- WHAT IS READ IS BYTES
   pub read_at : (k : Kind) (a : ℕ) (i : Bytes) → byte_read d k a l i < 256

@@ -1,8 +1,9 @@
 -- What the host takes a command for and what the device does: the same plan, kind by kind.
 -- Assumes nothing.
-use Rattle.std.specs.Prelude.{◌≡◌, ℕ, Bool, true, false, cond, List}
+use Rattle.std.specs.Prelude.{◌≡◌, ℕ, Bool, true, false, cond, List, Option, Some, None}
 use Rattle.std.proofs.Math.Path.{refl}
 use Rattle.std.proofs.Common.{sym, ◌∙◌}
+use Rattle.kinds.specs.declared.Register.{Register}
 use Rattle.basis.specs.Truth.{untrue}
 use Rattle.units.specs.declared.Bytes.{Bytes}
 use Rattle.units.specs.Units.{bytes}
@@ -13,8 +14,6 @@ use Rattle.kinds.specs.declared.Target.{Target}
 use Rattle.kinds.specs.declared.Target.TheVariants as Into
 use Rattle.kinds.specs.declared.Kind.{Kind}
 use Rattle.kinds.specs.declared.Kind.TheVariants.{Unknown, Plain, Read, Write}
-use Rattle.commands.specs.declared.registers.Mapped.{Mapped}
-use Rattle.commands.specs.declared.registers.Mapped.TheVariants.{At, Nowhere}
 use Rattle.commands.specs.declared.plans.Address.{Address}
 use Rattle.commands.specs.declared.plans.Address.TheVariants.{Absent, InMemory, InArea, InMap, LowNibbleZero, Ignored}
 use Rattle.commands.specs.declared.plans.Body.{Body}
@@ -84,9 +83,9 @@ alike_self AnyRead = refl
 alike_self (FixedWrite b) = refl
 alike_self AnyWrite = refl
 
-mapped_alike : (m : Mapped) → is_mapped m ≡ true → Alike (mapped_body m) (FixedRead (bytes 8))
-mapped_alike (At r) e = (bytes 8, refl)
-mapped_alike Nowhere e = untrue e
+mapped_alike : (m : Option Register) → is_mapped m ≡ true → Alike (mapped_body m) (FixedRead (bytes 8))
+mapped_alike (Some r) e = (bytes 8, refl)
+mapped_alike None e = untrue e
 
 pub alike : (s : Setting) (k : Kind) (a : ℕ) → allowed_of s (address_of k) a ≡ true → Alike (body_of s.part k a) (asked k (body_of s.part k a))
 alike s Unknown a e = refl

@@ -28,10 +28,10 @@ fn is_sized(d: Device, memory: &[u8], area: &[u8]) -> bool
     if !parts::is_offered(part, n) {
         return false;
     }
-    if !Bytes::of_store(memory).same(places::memory_size(n)) {
+    if Bytes::of_store(memory) != places::memory_size(n) {
         return false;
     }
-    Bytes::of_store(area).same(part.area())
+    Bytes::of_store(area) == part.area()
 }
 
 // Whether the clocks are few enough, and the output has room for what they drive.
@@ -39,8 +39,8 @@ pub fn has_room(samples: &[u8], output: &[u8]) -> bool
     ensures { result ≡ room_for samples.now output.now }
 {
     let clocks = Clocks::of_samples(samples);
-    if clocks.at_most(Clocks::longest()) {
-        return clocks.at_most(Clocks::of_samples(output));
+    if clocks <= Clocks::longest() {
+        return clocks <= Clocks::of_samples(output);
     }
     false
 }
@@ -62,13 +62,13 @@ pub fn has_room_after(u: Underway, samples: &[u8], output: &[u8]) -> bool
     let before = so_far(u);
     let clocks = Clocks::of_samples(samples);
     let most = Clocks::longest();
-    if !before.at_most(most) {
+    if before > most {
         return false;
     }
-    if !clocks.at_most(most.past(before)) {
+    if clocks > most.past(before) {
         return false;
     }
-    clocks.at_most(Clocks::of_samples(output))
+    clocks <= Clocks::of_samples(output)
 }
 
 // Whether every sample is a level of four wires.

@@ -17,8 +17,8 @@ use units::{Bytes, Clocks, bytes_to_clocks};
 
 // What clocks leave of all.
 fn left_by(some: Clocks, all: Clocks) -> Clocks {
-    if some.at_most(all) {
-        return all.less(some);
+    if some <= all {
+        return all - some;
     }
     Clocks::none()
 }

@@ -8,7 +8,7 @@ use list_answers::put_named;
 use list_names::{put_part, put_wires};
 use list_rows::put_bytes;
 use parts::Part;
-use record::{Answer, answer_number, mode_wires};
+use record::{Answer, mode_wires};
 use text::{put_all, put_decimal, put_hex, put_word};
 use units::{Bytes, Clocks};
 
@@ -118,7 +118,7 @@ fn put_count(page: &mut [u8], at: usize, text: usize, b: Body) -> usize {
 }
 
 fn put_size(page: &mut [u8], at: usize, size: Bytes) -> usize {
-    if size.same(Bytes::none()) {
+    if size == Bytes::none() {
         return at;
     }
     let b = put_all(page, at, b" ");
@@ -152,7 +152,7 @@ fn put_reason(page: &mut [u8], at: usize, o: Order, a: Answer) -> usize {
         b"|the command takes more than the 65,535 clocks that a transaction has.\n\
         ||||||the address has more than 24 bits, it is FFFFFF at most.\n\
         |||the wait of this command has four bits, --wait is 0F at most.\n",
-        answer_number(a) as usize,
+        u8::from(a) as usize,
     )
 }
 

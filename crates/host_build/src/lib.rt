@@ -81,17 +81,17 @@ fn front_clocks(k: Kind, w: Wires, cr2: u8) -> Clocks
     let command = bytes_to_clocks(Bytes::one(), w);
     let address = address_length(address_of(k), later_wires(k, w));
     let wait = wait_of(k, w, cr2);
-    command.plus(address).plus(wait)
+    command + address + wait
 }
 
 // More clocks than a transaction has, or than there is room for.
 fn is_over(c: Clocks, room: Clocks) -> bool
     ensures { result ≡ (fewer longest c || fewer room c) }
 {
-    if Clocks::longest().fewer(c) {
+    if Clocks::longest() < c {
         return true;
     }
-    room.fewer(c)
+    room < c
 }
 
 // 1: too many samples. So much data that its clocks might not be counted is too much by itself.
@@ -101,13 +101,13 @@ fn is_oversized(o: Order, k: Kind, written: &[u8], samples: &[u8]) -> bool
     let wanted = o.wanted;
     let b = body_asked(o, k);
     let n = bytes_sent(b, wanted, Bytes::of_store(written));
-    if Bytes::stated(MOST_BYTES).fewer(n) {
+    if Bytes::stated(MOST_BYTES) < n {
         return true;
     }
     let w = mode_wires(o.mode);
     let front = front_clocks(k, w, o.cr2);
     let body = bytes_to_clocks(n, later_wires(k, w));
-    is_over(front.plus(body), Clocks::of_samples(samples))
+    is_over(front + body, Clocks::of_samples(samples))
 }
 
 // The first row that holds.

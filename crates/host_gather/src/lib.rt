@@ -53,7 +53,7 @@ fn driven_clocks(driven: &[u8]) -> Clocks
         let x = driven[i];
         i += 1;
         if x == 0 {
-            count = count.less(one);
+            count = count - one;
         }
     }
     count
@@ -80,7 +80,7 @@ pub fn refusal(n: u8, driven: &[u8], bytes: &[u8]) -> Answer
     }
     let needed = bytes_driven(w, driven);
     let room = Bytes::of_store(bytes);
-    if room.fewer(needed) {
+    if room < needed {
         return Answer::Size;
     }
     Answer::Done
@@ -111,7 +111,7 @@ pub fn put_collected(w: Wires, driven: &[u8], bytes: &mut [u8]) -> Bytes
         }
         number = shift_in(number, seen(x, w), w);
         had = unfinished(had.next(), w);
-        if had.at_most(none) {
+        if had <= none {
             to = put_byte(bytes, to, (number % 256) as u8);
             number = 0;
         }

@@ -111,10 +111,10 @@ pub fn is_few(b: Body, wanted: Bytes, written: Bytes) -> bool
 {
     match b {
         Body::Nothing => false,
-        Body::FixedRead(_) => wanted.fewer(Bytes::one()),
-        Body::AnyRead => wanted.fewer(Bytes::one()),
-        Body::FixedWrite(size) => written.fewer(size),
-        Body::AnyWrite => written.fewer(Bytes::one()),
+        Body::FixedRead(_) => wanted < Bytes::one(),
+        Body::AnyRead => wanted < Bytes::one(),
+        Body::FixedWrite(size) => written < size,
+        Body::AnyWrite => written < Bytes::one(),
     }
 }
 
@@ -124,9 +124,9 @@ pub fn is_many(b: Body, wanted: Bytes, written: Bytes) -> bool
 {
     match b {
         Body::Nothing => is_any(wanted, written),
-        Body::FixedRead(size) => size.fewer(wanted),
+        Body::FixedRead(size) => size < wanted,
         Body::AnyRead => false,
-        Body::FixedWrite(size) => size.fewer(written),
+        Body::FixedWrite(size) => size < written,
         Body::AnyWrite => false,
     }
 }
@@ -134,8 +134,8 @@ pub fn is_many(b: Body, wanted: Bytes, written: Bytes) -> bool
 fn is_any(wanted: Bytes, written: Bytes) -> bool
     ensures { result ≡ (fewer_bytes (bytes 0) written || fewer_bytes (bytes 0) wanted) }
 {
-    if Bytes::none().fewer(written) {
+    if Bytes::none() < written {
         return true;
     }
-    Bytes::none().fewer(wanted)
+    Bytes::none() < wanted
 }

@@ -26,7 +26,7 @@ fn put_sample(samples: &mut [u8], at: Clocks, x: u8) -> Clocks
 fn bits_above(v: u32, below: Clocks, w: Wires) -> u8
     ensures { result ≡ above w below.0 v }
 {
-    if Clocks::stated(NUMBER).at_most(below) {
+    if Clocks::stated(NUMBER) <= below {
         return 0;
     }
     let shift = bits_in(below, w);
@@ -44,8 +44,8 @@ pub fn put_number(samples: &mut [u8], at: Clocks, w: Wires, c: Clocks, v: u32) -
     let one = Clocks::stated(1);
     let mut to = at;
     let mut below = c;
-    while one.at_most(below) {
-        below = below.less(one);
+    while one <= below {
+        below = below - one;
         let x = bits_above(v, below, w);
         to = put_sample(samples, to, x);
     }
@@ -59,8 +59,8 @@ pub fn put_silent(samples: &mut [u8], at: Clocks, c: Clocks) -> Clocks
     let one = Clocks::stated(1);
     let mut to = at;
     let mut left = c;
-    while one.at_most(left) {
-        left = left.less(one);
+    while one <= left {
+        left = left - one;
         to = put_sample(samples, to, 0);
     }
     to

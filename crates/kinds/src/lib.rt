@@ -5,7 +5,7 @@ ghost use Rattle.std.specs.Prelude.{◌≡◌};
 ghost use Rattle.kinds.specs.Tests.{unknown};
 
 // A command without data.
-#[derive(Clone, Copy)]
+#[derive(Clone, Copy, PartialEq, Eq)]
 pub enum Control {
     NoOperation,
     WriteEnable,
@@ -22,7 +22,7 @@ pub enum Control {
 
 // What a register command reads or writes. `Configurations` is all four together; `LongIdentity` is the
 // eight bytes of the PSRAM.
-#[derive(Clone, Copy)]
+#[derive(Clone, Copy, PartialEq, Eq)]
 pub enum Register {
     Status,
     AreaProtection,
@@ -39,7 +39,7 @@ pub enum Register {
 }
 
 // How a memory read is clocked, and a memory write.
-#[derive(Clone, Copy)]
+#[derive(Clone, Copy, PartialEq, Eq)]
 pub enum ReadForm {
     Plain,
     Fast,
@@ -47,7 +47,7 @@ pub enum ReadForm {
     Wrapped,
 }
 
-#[derive(Clone, Copy)]
+#[derive(Clone, Copy, PartialEq, Eq)]
 pub enum WriteForm {
     Plain,
     Quad,
@@ -55,7 +55,7 @@ pub enum WriteForm {
 
 // What a command reads. The PSRAM's mode register and its identity are read with an address, so they stand
 // apart from the registers without one; `Map` is the register that an address names (D58).
-#[derive(Clone, Copy)]
+#[derive(Clone, Copy, PartialEq, Eq)]
 pub enum Source {
     Register(Register),
     Map,
@@ -66,7 +66,7 @@ pub enum Source {
 }
 
 // What a command writes.
-#[derive(Clone, Copy)]
+#[derive(Clone, Copy, PartialEq, Eq)]
 pub enum Target {
     Register(Register),
     Mode,
@@ -75,7 +75,7 @@ pub enum Target {
 }
 
 // What a command does, in four cases (D58).
-#[derive(Clone, Copy)]
+#[derive(Clone, Copy, PartialEq, Eq)]
 pub enum Kind {
     Unknown,
     Plain(Control),
@@ -87,10 +87,5 @@ pub enum Kind {
 pub fn is_unknown(k: Kind) -> bool
     ensures { result ≡ unknown k }
 {
-    match k {
-        Kind::Unknown => true,
-        Kind::Plain(_) => false,
-        Kind::Read(_) => false,
-        Kind::Write(_) => false,
-    }
+    k == Kind::Unknown
 }

@@ -4,13 +4,13 @@
 use commands::plans::{Address, address_of};
 use kinds::{Kind, Target};
 use list_views::{View, byte_at, first_above, is_addressed, sum};
-use record::{Answer, answer_number};
+use record::Answer;
 use text::{put_all, put_decimal, put_hex, put_word};
 use units::Clocks;
 
 // An answer by number and name.
 pub fn put_named(page: &mut [u8], at: usize, a: Answer) -> usize {
-    let n = answer_number(a);
+    let n = u8::from(a);
     let b = put_decimal(page, at, n as u64);
     put_word(
         page,
@@ -163,6 +163,6 @@ pub fn put_rule(page: &mut [u8], at: usize, v: View, samples: &[u8], a: Answer) 
         |clocks came after the last one that the command takes.\n\
         |the transaction before was no reset enable, 66, that was answered 0.\n\
         |the call came out of turn: one is open where it wants none, or none is where it wants one.\n",
-        answer_number(a) as usize,
+        u8::from(a) as usize,
     )
 }

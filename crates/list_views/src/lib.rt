@@ -33,14 +33,14 @@ pub fn byte_at(s: &[u8], i: usize) -> u8 {
 
 // A sum that goes no further than `most`: what both leave of that is taken off it.
 pub fn sum(a: Clocks, b: Clocks, most: Clocks) -> Clocks {
-    if !a.at_most(most) {
+    if a > most {
         return most;
     }
-    let left = most.less(a);
-    if !b.at_most(left) {
+    let left = most - a;
+    if b > left {
         return most;
     }
-    most.less(left.less(b))
+    most - (left - b)
 }
 
 // The clocks before the first sample above 15, or all where there is none.
@@ -70,7 +70,7 @@ fn number_in(samples: &[u8], from: Clocks, till: Clocks, w: Wires) -> u32 {
 
 // Whether all command bits came.
 fn is_whole(s: Setting, c: Counts) -> bool {
-    plan_in_force::command_clocks(s).at_most(c.command)
+    plan_in_force::command_clocks(s) <= c.command
 }
 
 fn opcode_in(s: Setting, c: Counts, samples: &[u8]) -> u8 {
@@ -91,7 +91,7 @@ fn kind_for(s: Setting, whole: bool, opcode: u8) -> Kind {
 
 // Whether the command has an address.
 pub fn is_addressed(s: Setting, k: Kind) -> bool {
-    Clocks::none().fewer(plan_in_force::address_clocks(s, k))
+    Clocks::none() < plan_in_force::address_clocks(s, k)
 }
 
 // And whether all its bits came.
@@ -99,7 +99,7 @@ fn is_located(s: Setting, k: Kind, c: Counts) -> bool {
     if !is_addressed(s, k) {
         return false;
     }
-    plan_in_force::address_clocks(s, k).at_most(c.address)
+    plan_in_force::address_clocks(s, k) <= c.address
 }
 
 fn address_in(c: Counts, samples: &[u8], w: Wires) -> u32 {
@@ -150,7 +150,7 @@ fn levels(x: u8, driven: bool, w: Wires) -> u8 {
 // A byte is kept when its last clock has come.
 fn keep_byte(bytes: &mut [u8], n: Bytes, c: Clocks, w: Wires, number: u32) -> Bytes {
     let left = units::unfinished(c, w);
-    if left.at_most(Clocks::none()) {
+    if left <= Clocks::none() {
         return Bytes::stated(put(bytes, n.in_bytes(), (number % 256) as u8));
     }
     n

@@ -24,7 +24,7 @@ use Rattle.opcodes.specs.Opcodes.{kind_of}
 use Rattle.commands.specs.declared.plans.Body.{Body}
 use Rattle.commands.specs.declared.plans.Body.TheVariants.{Nothing, FixedRead, AnyRead, FixedWrite, AnyWrite}
 use Rattle.counts.specs.Counts.{counted}
-use Rattle.progress.specs.declared.Phase.TheVariants.{Address, Wait, Data, Rest}
+use Rattle.counts.specs.declared.Phase.TheVariants.{Address, Wait, Data, Rest}
 use Rattle.progress.specs.declared.Tally.{Tally}
 use Rattle.progress.specs.declared.Progress.{Progress}
 use Rattle.progress.specs.Progress.{entered, onward, begin_of}

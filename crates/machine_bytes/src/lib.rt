@@ -9,7 +9,7 @@ ghost use Rattle.paper.specs.Storing.{into_area, protected_at, put_at, shut_amon
 ghost use Rattle.paper.specs.Driving.{mapped_byte, found_at, byte_read, level_at, driven_at};
 
 use commands::plans::Body;
-use commands::registers::{Mapped, register_at};
+use commands::registers::register_at;
 use kinds::{Kind, Register, Source, Target};
 use record::{Aim, Device};
 use units::{Bytes, Clocks};
@@ -52,7 +52,7 @@ pub fn shut_among(a: Aim, m: Bytes) -> Bytes
 {
     let mut i = Bytes::none();
     let mut shut = Bytes::none();
-    while i.fewer(m) {
+    while i < m {
         let here = protected_at(a, i);
         i = i.next();
         if here {
@@ -96,12 +96,12 @@ fn get(store: &[u8], place: usize) -> u8
     0
 }
 
-fn mapped_byte(d: Device, m: Mapped, i: Bytes) -> u8
+fn mapped_byte(d: Device, m: Option<Register>, i: Bytes) -> u8
     ensures { result ≡ mapped_byte d m i }
 {
     match m {
-        Mapped::At(r) => d.shown_byte(r, i),
-        Mapped::Nowhere => 0,
+        Some(r) => d.shown_byte(r, i),
+        None => 0,
     }
 }
 

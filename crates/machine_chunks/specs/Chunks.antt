@@ -6,8 +6,8 @@ use Rattle.wires.specs.Bits.{gather_from}
 use Rattle.kinds.specs.declared.Kind.{Kind}
 use Rattle.counts.specs.declared.Counts.{Counts}
 use Rattle.counts.specs.Counts.{no_counts, total}
-use Rattle.progress.specs.declared.Phase.{Phase}
-use Rattle.progress.specs.declared.Phase.TheVariants.{Command, Address, Wait, Data, Rest}
+use Rattle.counts.specs.declared.Phase.{Phase}
+use Rattle.counts.specs.declared.Phase.TheVariants.{Command, Address, Wait, Data, Rest}
 use Rattle.progress.specs.declared.Progress.{Progress}
 use Rattle.record.specs.declared.answers.Answer.TheVariants.{Done}
 use Rattle.record.specs.declared.devices.Underway.{Underway}

@@ -24,13 +24,13 @@ fn phase_by(s: Setting, k: Kind, address: u32, c: Counts) -> Phase
     let addressing = c.address;
     let wait = c.wait;
     let data = c.body;
-    if !plan_in_force::command_clocks(s).at_most(command) {
+    if plan_in_force::command_clocks(s) > command {
         return Phase::Command;
     }
-    if !plan_in_force::address_clocks(s, k).at_most(addressing) {
+    if plan_in_force::address_clocks(s, k) > addressing {
         return Phase::Address;
     }
-    if !plan_in_force::wait_clocks(s, k, address).at_most(wait) {
+    if plan_in_force::wait_clocks(s, k, address) > wait {
         return Phase::Wait;
     }
     let body = plan_in_force::body_for(s, k, address);
@@ -79,11 +79,11 @@ fn opcode_after(s: Setting, u: Underway, samples: &[u8]) -> u8
     let w = s.wires;
     let command = plan_in_force::command_clocks(s);
     let before = u.clocks;
-    if command.at_most(before) {
+    if command <= before {
         return u.opcode;
     }
     let missing = command.past(before);
-    if missing.at_most(Clocks::of_samples(samples)) {
+    if missing <= Clocks::of_samples(samples) {
         let n = gathered(w, u.number, samples, missing);
         return (n % 256) as u8;
     }

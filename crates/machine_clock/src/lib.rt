@@ -84,7 +84,7 @@ fn is_last(t: Clocks, w: Wires) -> bool
 {
     let after = t.next();
     let past = units::unfinished(after, w);
-    past.at_most(Clocks::none())
+    past <= Clocks::none()
 }
 
 // Data clock `t` of a write: the bits are gathered, and with a byte's last clock the byte is taken.

@@ -27,8 +27,8 @@ fn is_short(b: Body, w: Wires, t: Clocks) -> bool
         Body::Nothing => false,
         Body::FixedRead(_) => false,
         Body::AnyRead => false,
-        Body::FixedWrite(m) => units::clocks_to_bytes(t, w).fewer(m),
-        Body::AnyWrite => units::clocks_to_bytes(t, w).fewer(Bytes::one()),
+        Body::FixedWrite(m) => units::clocks_to_bytes(t, w) < m,
+        Body::AnyWrite => units::clocks_to_bytes(t, w) < Bytes::one(),
     }
 }
 
@@ -37,10 +37,10 @@ fn is_long(b: Body, t: Clocks) -> bool
     ensures { result ≡ long_rest b t }
 {
     match b {
-        Body::Nothing => Clocks::none().fewer(t),
+        Body::Nothing => Clocks::none() < t,
         Body::FixedRead(_) => false,
         Body::AnyRead => false,
-        Body::FixedWrite(_) => Clocks::none().fewer(t),
+        Body::FixedWrite(_) => Clocks::none() < t,
         Body::AnyWrite => false,
     }
 }
@@ -102,7 +102,7 @@ fn is_all_shut(a: Aim, m: Bytes) -> bool
     ensures { result ≡ all_shut a m }
 {
     let shut = machine_bytes::shut_among(a, m);
-    shut.same(m)
+    shut == m
 }
 
 // 9: a burst of which no byte was open.
@@ -168,7 +168,7 @@ fn judge_in(s: Setting, armed: bool, latch: bool, p: Progress) -> Answer
     let tally = p.tally;
     let counts = tally.counts;
     let command = counts.command;
-    if command.fewer(plan_in_force::command_clocks(s)) {
+    if command < plan_in_force::command_clocks(s) {
         return Answer::Short;
     }
     if plan_in_force::asleep_for(s, k) {
@@ -178,7 +178,7 @@ fn judge_in(s: Setting, armed: bool, latch: bool, p: Progress) -> Answer
         return Answer::Unknown;
     }
     let address = counts.address;
-    if address.fewer(plan_in_force::address_clocks(s, k)) {
+    if address < plan_in_force::address_clocks(s, k) {
         return Answer::Short;
     }
     if plan_in_force::refused_at(s, k, p.address) {

@@ -11,7 +11,7 @@ use Rattle.units.specs.Units.{clocks, next, at_most, unfinished_of}
 use Rattle.commands.specs.declared.plans.Body.{Body}
 use Rattle.commands.specs.declared.plans.Body.TheVariants.{Nothing, FixedRead, AnyRead, FixedWrite, AnyWrite}
 use Rattle.commands.specs.Plans.{writes}
-use Rattle.progress.specs.declared.Phase.{Phase}
+use Rattle.counts.specs.declared.Phase.{Phase}
 use Rattle.progress.specs.declared.Progress.{Progress}
 use Rattle.record.specs.declared.devices.Aim.{Aim}
 use Rattle.paper.specs.InForce.{body_for, wires_for}

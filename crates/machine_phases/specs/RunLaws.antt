@@ -13,8 +13,8 @@ use Rattle.counts.specs.Counts.{total, command_tick, address_tick, wait_tick, bo
 use Rattle.record.specs.declared.devices.Device.{Device}
 use Rattle.record.specs.declared.devices.Setting.{Setting}
 use Rattle.paper.specs.InForce.{command_clocks, wires_for, address_clocks, wait_clocks, body_for}
-use Rattle.progress.specs.declared.Phase.{Phase}
-use Rattle.progress.specs.declared.Phase.TheVariants.{Command, Address, Wait, Data, Rest}
+use Rattle.counts.specs.declared.Phase.{Phase}
+use Rattle.counts.specs.declared.Phase.TheVariants.{Command, Address, Wait, Data, Rest}
 use Rattle.progress.specs.declared.Tally.{Tally}
 use Rattle.progress.specs.declared.Progress.{Progress}
 use Rattle.progress.specs.Progress.{counting}

@@ -36,9 +36,9 @@ pub fn is_full(b: Body, w: Wires, t: Clocks) -> bool
 {
     match b {
         Body::Nothing => true,
-        Body::FixedRead(m) => m.at_most(units::clocks_to_bytes(t, w)),
+        Body::FixedRead(m) => m <= units::clocks_to_bytes(t, w),
         Body::AnyRead => false,
-        Body::FixedWrite(m) => m.at_most(units::clocks_to_bytes(t, w)),
+        Body::FixedWrite(m) => m <= units::clocks_to_bytes(t, w),
         Body::AnyWrite => false,
     }
 }
@@ -64,7 +64,7 @@ fn to_wait(s: Setting, k: Kind, address: u32, tally: Tally) -> Progress
     ensures { result ≡ to_wait s k address tally }
 {
     let wait = plan_in_force::wait_clocks(s, k, address);
-    if wait.at_most(Clocks::none()) {
+    if wait <= Clocks::none() {
         return to_data(s, k, address, tally);
     }
     Progress::entered(Phase::Wait, k, address, tally)
@@ -76,7 +76,7 @@ fn to_address(s: Setting, k: Kind, tally: Tally) -> Progress
     ensures { result ≡ to_address s k tally }
 {
     let address = plan_in_force::address_clocks(s, k);
-    if address.at_most(Clocks::none()) {
+    if address <= Clocks::none() {
         return to_wait(s, k, 0, tally);
     }
     Progress::entered(Phase::Address, k, 0, tally)
@@ -96,7 +96,7 @@ pub fn command_step(s: Setting, p: Progress, x: u8) -> Progress
     let tally = before.counting(counts);
     let limit = plan_in_force::command_clocks(s);
     let so_far = counts.command;
-    if limit.at_most(so_far) {
+    if limit <= so_far {
         let k = kind_of(part.family(), w, (number % 256) as u8);
         return to_address(s, k, tally);
     }
@@ -116,7 +116,7 @@ pub fn address_step(s: Setting, p: Progress, x: u8) -> Progress
     let tally = before.counting(counts);
     let limit = plan_in_force::address_clocks(s, kind);
     let so_far = counts.address;
-    if limit.at_most(so_far) {
+    if limit <= so_far {
         return to_wait(s, kind, number, tally);
     }
     p.onward(number, tally)
@@ -134,7 +134,7 @@ pub fn wait_step(s: Setting, p: Progress) -> Progress
     let tally = before.counting(counts);
     let limit = plan_in_force::wait_clocks(s, kind, p.address);
     let so_far = counts.wait;
-    if limit.at_most(so_far) {
+    if limit <= so_far {
         return to_data(s, kind, p.address, tally);
     }
     p.onward(0, tally)

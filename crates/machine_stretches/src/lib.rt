@@ -18,8 +18,8 @@ fn reach(from: Clocks, c: Clocks, all: Clocks) -> Clocks
     requires { (from.0 ≤ all.0) × (all.0 ≤ 65535) }
     ensures { result ≡ clocks (reach_of from c all.0) }
 {
-    if c.fewer(all.less(from)) {
-        return from.plus(c);
+    if c < all - from {
+        return from + c;
     }
     all
 }

@@ -98,10 +98,10 @@ fn bytes_in(a: Asked) -> Bytes {
     let w = mode_wires(a.wires);
     let all = Clocks::stated(a.clocks as usize);
     let front = bytes_to_clocks(Bytes::stated(FRONT), w);
-    if !front.at_most(all) {
+    if front > all {
         return Bytes::none();
     }
-    clocks_to_bytes(all.less(front), w)
+    clocks_to_bytes(all - front, w)
 }
 
 // The samples of the command. Behind what the host builds all wires stay low: a read goes on, and a write has its last byte

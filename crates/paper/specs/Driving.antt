@@ -1,5 +1,6 @@
 -- What a read drives, clock by clock. Document 01, "Samples", second paragraph. A byte that the host breaks off is driven as far as its clocks go.
-use Rattle.std.specs.Prelude.{ℕ, ◌+◌, List, [], ◌∷◌, get_or}
+use Rattle.std.specs.Prelude.{ℕ, ◌+◌, List, [], ◌∷◌, get_or, Option, Some, None}
+use Rattle.kinds.specs.declared.Register.{Register}
 use Rattle.units.specs.declared.Clocks.{Clocks}
 use Rattle.units.specs.declared.Bytes.{Bytes}
 use Rattle.units.specs.Units.{clocks, whole_of}
@@ -10,8 +11,6 @@ use Rattle.kinds.specs.declared.Source.{Source}
 use Rattle.kinds.specs.declared.Source.TheVariants as From
 use Rattle.kinds.specs.declared.Kind.{Kind}
 use Rattle.kinds.specs.declared.Kind.TheVariants.{Unknown, Plain, Read, Write}
-use Rattle.commands.specs.declared.registers.Mapped.{Mapped}
-use Rattle.commands.specs.declared.registers.Mapped.TheVariants.{At, Nowhere}
 use Rattle.commands.specs.Registers.{mapped_of}
 use Rattle.commands.specs.declared.plans.Body.{Body}
 use Rattle.commands.specs.declared.plans.Body.TheVariants.{Nothing, FixedRead, AnyRead, FixedWrite, AnyWrite}
@@ -22,9 +21,9 @@ use Rattle.places.specs.Places.{read_place, area_place}
 use Rattle.paper.specs.InForce.{wires_for}
 use Rattle.paper.specs.Storing.{Lent}
 
-abbrev pub mapped_byte : Device → Mapped → Bytes → ℕ
-mapped_byte d (At r) i = shown_byte d r i
-mapped_byte d Nowhere i = 0
+abbrev pub mapped_byte : Device → Option Register → Bytes → ℕ
+mapped_byte d (Some r) i = shown_byte d r i
+mapped_byte d None i = 0
 
 -- byte i of what a read finds at its source
 abbrev pub found_at : Device → Source → ℕ → Lent → Bytes → ℕ

@@ -1,6 +1,6 @@
 -- The parts and their limits. Document 01, "Commands of part M" (memory and area), "Commands of part P" (n as for M), "Answer numbers" row 1
 -- (the area of P is empty), "Bench tape" (the numbers of the parts). Document 02, P4 (part 3, the MRAM of 32 Mbit, is M32 here, D77).
-use Rattle.std.specs.Prelude.{ℕ, Bool, ◌&&◌, List, [], ◌∷◌, leb}
+use Rattle.std.specs.Prelude.{ℕ, Bool, ◌&&◌, cond, List, [], ◌∷◌, leb, Result, Ok, Err}
 use Rattle.basis.specs.Rows.{look, keys, among}
 use Rattle.units.specs.declared.Bytes.{Bytes}
 use Rattle.units.specs.Units.{bytes}
@@ -8,6 +8,7 @@ use Rattle.parts.specs.declared.Family.{Family}
 use Rattle.parts.specs.declared.Family.TheVariants.{Mram, Psram}
 use Rattle.parts.specs.declared.Part.{Part}
 use Rattle.parts.specs.declared.Part.TheVariants.{M, P, M32}
+use Rattle.parts.specs.declared.UnknownPart.{UnknownPart}
 
 -- Rules go by the family, limits by the part. What follows below and is not a limit (commands, latch, protection, groups, reset, power) asks the family (D57).
 abbrev pub family_of : Part → Family
@@ -30,6 +31,10 @@ part_of k = look M parts k
 
 abbrev pub known_part : ℕ → Bool
 known_part k = among k (keys parts)
+
+-- the same with the refusal: the number itself, where it stands for no part
+abbrev pub part_named : ℕ → Result Part UnknownPart
+part_named k = cond (known_part k) (Ok (part_of k)) (Err (record { 0 = k }))
 
 -- a memory has 2^n bytes, n from the least to the most
 abbrev pub least_of : Part → ℕ

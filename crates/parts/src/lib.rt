@@ -3,7 +3,7 @@
 #![tactic(auto)]
 
 ghost use Rattle.std.specs.Prelude.{◌≡◌};
-ghost use Rattle.parts.specs.Parts.{part_of, known_part, part_number, family_of, least_of, most_of, offered, area_of, section_of, wrap_codes};
+ghost use Rattle.parts.specs.Parts.{part_of, part_named, part_number, family_of, least_of, most_of, offered, area_of, section_of, wrap_codes};
 ghost use Rattle.parts.specs.Lengths.{wrap_length, group_length, share_of};
 
 use units::Bytes;
@@ -79,54 +79,59 @@ pub const LARGEST_MEMORY: usize = 4194304;
 pub const LARGEST_AREA: usize = 512;
 
 // Rules go by the family: commands, latch, protection, groups, reset and power (D57).
-#[derive(Clone, Copy)]
+#[derive(Clone, Copy, PartialEq, Eq)]
 pub enum Family {
     Mram,
     Psram,
 }
 
 // Limits go by the part: n, the area and its sections, the codes of groups, the register map, fresh registers (D57).
-#[derive(Clone, Copy)]
+#[derive(Clone, Copy, PartialEq, Eq)]
 pub enum Part {
     M,
     P,
     M32,
 }
 
-impl Part {
-    // The part of a number that stands for one; M for any other number.
-    pub fn of(number: u8) -> Self
-        ensures { result ≡ part_of number }
-    {
+// A number that stands for no part.
+#[derive(Clone, Copy, PartialEq, Eq)]
+pub struct UnknownPart(pub u8);
+
+// The part of a number that stands for one.
+impl TryFrom<u8> for Part {
+    type Error = UnknownPart;
+
+    ghost try_from_gives = { λ number r. r ≡ part_named number };
+
+    fn try_from(number: u8) -> Result<Self, UnknownPart> {
         match number {
-            PartM::NUMBER => Part::M,
-            PartP::NUMBER => Part::P,
-            PartM32::NUMBER => Part::M32,
-            _ => Part::M,
+            PartM::NUMBER => Ok(Part::M),
+            PartP::NUMBER => Ok(Part::P),
+            PartM32::NUMBER => Ok(Part::M32),
+            _ => Err(UnknownPart(number)),
         }
     }
+}
 
-    // Whether a number stands for a part.
-    pub fn is_known(number: u8) -> bool
-        ensures { result ≡ known_part number }
-    {
-        match number {
-            PartM::NUMBER => true,
-            PartP::NUMBER => true,
-            PartM32::NUMBER => true,
-            _ => false,
-        }
-    }
+// The number that stands for a part.
+impl From<Part> for u8 {
+    ghost from_gives = { λ part number. number ≡ part_number part };
 
-    // The number that stands for the part.
-    pub fn number(self) -> u8
-        ensures { result ≡ part_number self }
-    {
-        match self {
+    fn from(part: Part) -> u8 {
+        match part {
             Part::M => PartM::NUMBER,
             Part::P => PartP::NUMBER,
             Part::M32 => PartM32::NUMBER,
         }
+    }
+}
+
+impl Part {
+    // The part of a number that stands for one; M for any other number, which a record may hold and the checks refuse.
+    pub fn of(number: u8) -> Self
+        ensures { result ≡ part_of number }
+    {
+        Part::try_from(number).unwrap_or(Part::M)
     }
 
     pub fn family(self) -> Family

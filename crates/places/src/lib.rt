@@ -13,7 +13,7 @@ ghost use Rattle.places.specs.Laws.{Placeable};
 ghost use Rattle.places.specs.Protection.{shut_memory, section_shut, protected_of, area_protected_of};
 
 use commands::plans::Address;
-use commands::registers::{Mapped, register_at};
+use commands::registers::register_at;
 use parts::{Family, Part};
 use record::Setting;
 use units::Bytes;
@@ -36,12 +36,12 @@ pub fn memory_size(n: u8) -> Bytes
 }
 
 // Whether 65h found a register.
-fn is_mapped(m: Mapped) -> bool
+fn is_mapped(m: Option<Register>) -> bool
     ensures { result ≡ is_mapped m }
 {
     match m {
-        Mapped::At(_) => true,
-        Mapped::Nowhere => false,
+        Some(_) => true,
+        None => false,
     }
 }
 

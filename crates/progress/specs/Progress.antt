@@ -4,8 +4,8 @@ use Rattle.counts.specs.declared.Counts.{Counts}
 use Rattle.counts.specs.Counts.{no_counts}
 use Rattle.kinds.specs.declared.Kind.{Kind}
 use Rattle.kinds.specs.declared.Kind.TheVariants.{Unknown}
-use Rattle.progress.specs.declared.Phase.{Phase}
-use Rattle.progress.specs.declared.Phase.TheVariants.{Command}
+use Rattle.counts.specs.declared.Phase.{Phase}
+use Rattle.counts.specs.declared.Phase.TheVariants.{Command}
 use Rattle.progress.specs.declared.Tally.{Tally}
 use Rattle.progress.specs.declared.Progress.{Progress}
 

@@ -7,14 +7,7 @@ ghost use Rattle.progress.specs.Progress.{nothing_yet, counting, entered, onward
 use counts::Counts;
 use kinds::Kind;
 
-#[derive(Clone, Copy)]
-pub enum Phase {
-    Command,
-    Address,
-    Wait,
-    Data,
-    Rest,
-}
+pub use counts::Phase;
 
 // What the clocks so far come to: their counts, and the eight places of a register write (D59).
 #[derive(Clone, Copy)]

@@ -3,7 +3,7 @@ ghost use Rattle.std.specs.Prelude.{◌≡◌};
 ghost use Rattle.record.specs.Answers.{answer_number, class_of, is_done, refuses, is_protected};
 
 // What a call is answered. `answer_number` has the papers' numbers.
-#[derive(Clone, Copy)]
+#[derive(Clone, Copy, PartialEq, Eq)]
 pub enum Answer {
     Done,
     Size,
@@ -21,30 +21,32 @@ pub enum Answer {
     Turn,
 }
 
-pub fn answer_number(a: Answer) -> u8
-    ensures { result ≡ answer_number a }
-{
-    match a {
-        Answer::Done => 0,
-        Answer::Size => 1,
-        Answer::Sample => 2,
-        Answer::State => 3,
-        Answer::Short => 4,
-        Answer::Unknown => 5,
-        Answer::Asleep => 6,
-        Answer::Address => 7,
-        Answer::Latch => 8,
-        Answer::Protected => 9,
-        Answer::Reserved => 10,
-        Answer::Long => 11,
-        Answer::Unarmed => 12,
-        Answer::Turn => 13,
+impl From<Answer> for u8 {
+    ghost from_gives = { λ a number. number ≡ answer_number a };
+
+    fn from(a: Answer) -> u8 {
+        match a {
+            Answer::Done => 0,
+            Answer::Size => 1,
+            Answer::Sample => 2,
+            Answer::State => 3,
+            Answer::Short => 4,
+            Answer::Unknown => 5,
+            Answer::Asleep => 6,
+            Answer::Address => 7,
+            Answer::Latch => 8,
+            Answer::Protected => 9,
+            Answer::Reserved => 10,
+            Answer::Long => 11,
+            Answer::Unarmed => 12,
+            Answer::Turn => 13,
+        }
     }
 }
 
 // What became of a call: it was done, it was refused and nothing was clocked, or the device declined what was
 // clocked (D53).
-#[derive(Clone, Copy)]
+#[derive(Clone, Copy, PartialEq, Eq)]
 pub enum Class {
     Done,
     Refused,
@@ -56,19 +58,16 @@ pub fn class_of(a: Answer) -> Class
 {
     match a {
         Answer::Done => Class::Done,
-        Answer::Size => Class::Refused,
-        Answer::Sample => Class::Refused,
-        Answer::State => Class::Refused,
-        Answer::Short => Class::Declined,
-        Answer::Unknown => Class::Declined,
-        Answer::Asleep => Class::Declined,
-        Answer::Address => Class::Declined,
-        Answer::Latch => Class::Declined,
-        Answer::Protected => Class::Declined,
-        Answer::Reserved => Class::Declined,
-        Answer::Long => Class::Declined,
-        Answer::Unarmed => Class::Declined,
-        Answer::Turn => Class::Refused,
+        Answer::Size | Answer::Sample | Answer::State | Answer::Turn => Class::Refused,
+        Answer::Short
+        | Answer::Unknown
+        | Answer::Asleep
+        | Answer::Address
+        | Answer::Latch
+        | Answer::Protected
+        | Answer::Reserved
+        | Answer::Long
+        | Answer::Unarmed => Class::Declined,
     }
 }
 
@@ -76,27 +75,19 @@ pub fn class_of(a: Answer) -> Class
 pub fn is_done(a: Answer) -> bool
     ensures { result ≡ is_done a }
 {
-    match class_of(a) {
-        Class::Done => true,
-        Class::Refused => false,
-        Class::Declined => false,
-    }
+    class_of(a) == Class::Done
 }
 
 // The call was refused.
 pub fn is_refusal(a: Answer) -> bool
     ensures { result ≡ refuses a }
 {
-    match class_of(a) {
-        Class::Done => false,
-        Class::Refused => true,
-        Class::Declined => false,
-    }
+    class_of(a) == Class::Refused
 }
 
 // 9: every byte of the burst was protected.
 pub fn is_protected(a: Answer) -> bool
     ensures { result ≡ is_protected a }
 {
-    answer_number(a) == 9
+    a == Answer::Protected
 }

@@ -9,7 +9,7 @@ use parts::Part;
 use units::{Clocks, Wires};
 
 // The registers that keep their contents without power, and the PSRAM's mode register.
-#[derive(Clone, Copy)]
+#[derive(Clone, Copy, PartialEq, Eq)]
 pub struct Registers {
     pub status: u8,
     pub protection: u8,
@@ -22,7 +22,7 @@ pub struct Registers {
 
 // What does not outlive a power cycle: the bus mode (1, 2 or 4), the write latch, the arming of a reset, sleep,
 // and the PSRAM's toggle. A reset puts mode, latch and toggle back; the arming falls with the transaction that carried it.
-#[derive(Clone, Copy)]
+#[derive(Clone, Copy, PartialEq, Eq)]
 pub struct Volatile {
     pub mode: u8,
     pub latch: bool,
@@ -33,7 +33,7 @@ pub struct Volatile {
 
 // Identity and serial number, byte 0 first. The MRAM's device identity has four bytes, and the others
 // are 0 (D7).
-#[derive(Clone, Copy)]
+#[derive(Clone, Copy, PartialEq, Eq)]
 pub struct Identities {
     pub device: [u8; 8],
     pub unique: [u8; 8],
@@ -41,7 +41,7 @@ pub struct Identities {
 }
 
 // What a chip is made of: its part, by number, and n, its memory having 2^n bytes (D57).
-#[derive(Clone, Copy)]
+#[derive(Clone, Copy, PartialEq, Eq)]
 pub struct Make {
     pub part: u8,
     pub n: u8,
@@ -51,7 +51,7 @@ pub struct Make {
 // (D85). `selected` tells that one is open, select being low. `opcode` and `address` are 0 until they are whole; `number` has the
 // bits that have come of what is not whole yet, and `value` the whole bytes of a register write. Where none is open all of it is
 // 0.
-#[derive(Clone, Copy)]
+#[derive(Clone, Copy, PartialEq, Eq)]
 pub struct Underway {
     pub selected: bool,
     pub clocks: Clocks,
@@ -61,7 +61,7 @@ pub struct Underway {
     pub value: [u8; 8],
 }
 
-#[derive(Clone, Copy)]
+#[derive(Clone, Copy, PartialEq, Eq)]
 pub struct Device {
     pub make: Make,
     pub registers: Registers,
@@ -72,7 +72,7 @@ pub struct Device {
 
 // What neither latch nor arming has a part in: all that the rules of clocks, addresses and places ask of
 // a record, with the part and the wires of the bus mode as types (D21).
-#[derive(Clone, Copy)]
+#[derive(Clone, Copy, PartialEq, Eq)]
 pub struct Setting {
     pub part: Part,
     pub wires: Wires,
@@ -83,7 +83,7 @@ pub struct Setting {
 }
 
 // What a command is aimed at: the setting, with the kind and the address that were read (D59).
-#[derive(Clone, Copy)]
+#[derive(Clone, Copy, PartialEq, Eq)]
 pub struct Aim {
     pub setting: Setting,
     pub kind: Kind,
@@ -91,7 +91,7 @@ pub struct Aim {
 }
 
 // What a call answers: the answer, the five counts, and the next record.
-#[derive(Clone, Copy)]
+#[derive(Clone, Copy, PartialEq, Eq)]
 pub struct Outcome {
     pub answer: Answer,
     pub counts: Counts,

@@ -11,7 +11,7 @@ pub mod fresh;
 pub mod resets;
 pub mod shows;
 
-pub use answers::{Answer, Class, answer_number, class_of, is_done, is_protected, is_refusal};
+pub use answers::{Answer, Class, class_of, is_done, is_protected, is_refusal};
 pub use devices::{
     Aim, Device, Identities, Make, Outcome, Registers, Setting, Underway, Volatile, mode_wires,
     unclocked,

@@ -3,7 +3,7 @@
 #![tactic(auto)]
 
 use commands::plans::{Address, Body, address_of, body_of, later_wires, wait_of};
-use commands::registers::{Mapped, register_at};
+use commands::registers::register_at;
 use kinds::{Kind, Source, is_unknown};
 use list_names::{put_kind, put_part};
 use opcodes::kind_of;
@@ -127,7 +127,7 @@ fn put_body(page: &mut [u8], at: usize, b: Body) -> usize {
         b"none|read |read any|write |write any",
         body_word(b),
     );
-    if n.same(Bytes::none()) {
+    if n == Bytes::none() {
         return put_all(page, c, b" |\n");
     }
     let d = put_decimal(page, c, n.in_bytes() as u64);
@@ -210,8 +210,8 @@ fn put_holders(page: &mut [u8], at: usize, too: bool) -> usize {
 // What 65 reads at an address.
 fn kind_at(p: Part, address: u32) -> Kind {
     match register_at(p, address) {
-        Mapped::At(r) => Kind::Read(Source::Register(r)),
-        Mapped::Nowhere => Kind::Unknown,
+        Some(r) => Kind::Read(Source::Register(r)),
+        None => Kind::Unknown,
     }
 }
 

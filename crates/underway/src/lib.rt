@@ -22,7 +22,7 @@ use wires::fits;
 pub fn kind_at(s: Setting, u: Underway) -> Kind
     ensures { result ≡ kind_at s u }
 {
-    if command_clocks(s).at_most(u.clocks) {
+    if command_clocks(s) <= u.clocks {
         let part = s.part;
         let w = s.wires;
         return kind_of(part.family(), w, u.opcode);
@@ -57,7 +57,7 @@ pub fn counts_at(s: Setting, u: Underway) -> Counts
 fn spelling_of(all: Clocks, c: Clocks) -> Clocks
     ensures { result ≡ spelling all c }
 {
-    if all.at_most(c) {
+    if all <= c {
         return c;
     }
     Clocks::none()
@@ -95,12 +95,12 @@ fn is_number_reached(s: Setting, u: Underway) -> bool
     let c = counts_at(s, u);
     let command = c.command;
     let address = c.address;
-    if !command_clocks(s).at_most(command) {
+    if command_clocks(s) > command {
         let before = s.wires;
         return fits(u.number, command, before);
     }
     let w = wires_for(s, k);
-    if !address_clocks(s, k).at_most(address) {
+    if address_clocks(s, k) > address {
         return fits(u.number, address, w);
     }
     let data = c.body;
@@ -121,7 +121,7 @@ fn is_reached(s: Setting, u: Underway) -> bool
     let data = c.body;
     let before = s.wires;
     let w = wires_for(s, k);
-    if !all.at_most(Clocks::longest()) {
+    if all > Clocks::longest() {
         return false;
     }
     if !fits(
@@ -148,7 +148,7 @@ fn is_factless(u: Underway) -> bool
 {
     let all = u.clocks;
     let value = u.value;
-    if !all.at_most(Clocks::none()) {
+    if all > Clocks::none() {
         return false;
     }
     if u.opcode != 0 {

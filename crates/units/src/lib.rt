@@ -10,18 +10,20 @@
 #![tactic(auto)]
 
 ghost use Rattle.std.specs.Prelude.{◌≡◌, ◌+◌, ◌≤◌, ◌<◌, length};
-ghost use Rattle.units.specs.Units.{clocks, bytes, next, next_byte, plus, less, up_to, fewer, at_most, fewer_bytes, at_most_bytes, same_bytes, longest, wires_of, per_byte, clocks_of, clocks_within, whole_of, unfinished_of, byte_clocks, coming_of, bits_in};
+ghost use Rattle.units.specs.Units.{clocks, bytes, next, next_byte, plus, less, up_to, longest, wires_of, per_byte, clocks_of, clocks_within, whole_of, unfinished_of, byte_clocks, coming_of, bits_in};
+
+use std::ops::{Add, Sub};
 
 // A number of clocks (D18).
-#[derive(Clone, Copy)]
+#[derive(Clone, Copy, PartialEq, Eq, PartialOrd, Ord)]
 pub struct Clocks(usize);
 
 // A number of bytes (D18).
-#[derive(Clone, Copy)]
+#[derive(Clone, Copy, PartialEq, Eq, PartialOrd, Ord)]
 pub struct Bytes(usize);
 
 // The wires that carry data in a phase.
-#[derive(Clone, Copy)]
+#[derive(Clone, Copy, PartialEq, Eq)]
 pub enum Wires {
     One,
     Two,
@@ -71,51 +73,43 @@ impl Clocks {
         Clocks(self.0 + 1)
     }
 
-    pub fn plus(self, more: Clocks) -> Clocks
-        requires { self.0 + more.0 ≤ 4294967295 }
-        ensures { result ≡ plus self more }
-    {
-        Clocks(self.0 + more.0)
-    }
-
-    // What is left of these clocks when some of them are taken off.
-    pub fn less(self, some: Clocks) -> Clocks
-        requires { some.0 ≤ self.0 }
-        ensures { result ≡ less self some }
-    {
-        Clocks(self.0 - some.0)
-    }
-
     // The clocks past the first so many; none where there are no more than these.
     pub fn past(self, some: Clocks) -> Clocks
         ensures { result ≡ less self some }
     {
-        if self.0 < some.0 {
-            return Clocks(0);
-        }
-        Clocks(self.0 - some.0)
+        Clocks(self.0.saturating_sub(some.0))
     }
 
     // These clocks, but no more than so many.
     pub fn up_to(self, most: Clocks) -> Clocks
         ensures { result ≡ up_to most self }
     {
-        if self.0 < most.0 {
-            return self;
-        }
-        most
+        self.min(most)
     }
+}
 
-    pub fn fewer(self, than: Clocks) -> bool
-        ensures { result ≡ fewer self than }
-    {
-        self.0 < than.0
+impl Add for Clocks {
+    type Output = Clocks;
+
+    ghost can_add = { λ c d. c.0 + d.0 ≤ 4294967295 };
+
+    ghost add_gives = { λ c d r. r ≡ plus c d };
+
+    fn add(self, more: Clocks) -> Clocks {
+        Clocks(self.0 + more.0)
     }
+}
 
-    pub fn at_most(self, most: Clocks) -> bool
-        ensures { result ≡ at_most self most }
-    {
-        self.0 <= most.0
+// What is left of clocks when some of them are taken off.
+impl Sub for Clocks {
+    type Output = Clocks;
+
+    ghost can_sub = { λ c d. d.0 ≤ c.0 };
+
+    ghost sub_gives = { λ c d r. r ≡ less c d };
+
+    fn sub(self, some: Clocks) -> Clocks {
+        Clocks(self.0 - some.0)
     }
 }
 
@@ -159,24 +153,6 @@ impl Bytes {
         ensures { result ≡ next_byte self }
     {
         Bytes(self.0 + 1)
-    }
-
-    pub fn fewer(self, than: Bytes) -> bool
-        ensures { result ≡ fewer_bytes self than }
-    {
-        self.0 < than.0
-    }
-
-    pub fn at_most(self, most: Bytes) -> bool
-        ensures { result ≡ at_most_bytes self most }
-    {
-        self.0 <= most.0
-    }
-
-    pub fn same(self, other: Bytes) -> bool
-        ensures { result ≡ same_bytes self other }
-    {
-        self.0 == other.0
     }
 }
 

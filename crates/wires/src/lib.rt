@@ -50,7 +50,7 @@ pub fn shift_in(number: u32, x: u8, w: Wires) -> u32
 pub fn fits(v: u32, c: Clocks, w: Wires) -> bool
     ensures { result ≡ fits_in w c v }
 {
-    if Clocks::stated(NUMBER).at_most(c) {
+    if Clocks::stated(NUMBER) <= c {
         return true;
     }
     let bits = units::bits_in(c, w);
