@@ -7,7 +7,7 @@
 #![tactic(auto)]
 
 ghost use Rattle.std.specs.Prelude.{◌≡◌, ◌+◌, ◌<◌, ◌≤◌};
-ghost use Rattle.places.specs.Addresses.{memory_size, is_mapped, memory_allowed, allowed_of};
+ghost use Rattle.places.specs.Addresses.{memory_size, memory_allowed, allowed_of};
 ghost use Rattle.places.specs.Places.{group_in_force, wrap_in_force, read_span, write_span, place_in, read_place, write_place, area_place};
 ghost use Rattle.places.specs.Laws.{Placeable};
 ghost use Rattle.places.specs.Protection.{shut_memory, section_shut, protected_of, area_protected_of};
@@ -35,16 +35,6 @@ pub fn memory_size(n: u8) -> Bytes
     Bytes::stated(1usize << n)
 }
 
-// Whether 65h found a register.
-fn is_mapped(m: Option<Register>) -> bool
-    ensures { result ≡ is_mapped m }
-{
-    match m {
-        Some(_) => true,
-        None => false,
-    }
-}
-
 // Whether a memory has this address, or drops the bits that it has too many.
 fn memory_allowed(family: Family, n: u8, address: u32) -> bool
     requires { n ≤ 24 }
@@ -66,7 +56,7 @@ pub fn allowed(s: Setting, a: Address, address: u32) -> bool
         Address::Absent => true,
         Address::InMemory => memory_allowed(part.family(), s.n, address),
         Address::InArea => (address as usize) < part.area().in_bytes(),
-        Address::InMap => is_mapped(register_at(part, address)),
+        Address::InMap => register_at(part, address).is_some(),
         Address::LowNibbleZero => address % 16 == 0,
         Address::Ignored => true,
     }

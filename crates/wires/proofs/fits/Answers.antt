@@ -2,11 +2,12 @@
 -- Assumes nothing.
 use mathlib.Core.Path.{sym, ◌∙◌, refl}
 use borrow.Author.Tests.{leb-true}
+use Rattle.units.specs.Compared.{le_is}
 use Rattle.wires.proofs.Laws.{bits_many, fits_all, fits_by}
 use Rattle.wires.proofs.fits.Goals as goal
 
-pub returns-then-at_most : goal.returns-then-at_most
-returns-then-at_most c = fits_all c.args.w c.args.c _ c.ranges.v.fits (bits_many c.args.w c.args.c.0 (leb-true _ _ (sym (rw c.stated.ensures at c.at_most.ensures) ∙ c.if-at_most.true)))
+pub returns-then-le : goal.returns-then-le
+returns-then-le c = fits_all c.args.w c.args.c _ c.ranges.v.fits (bits_many c.args.w c.args.c.0 (leb-true _ _ (sym (rw (c.stated.ensures, le_is) at c.le.ensures) ∙ c.if-le.true)))
 
 pub returns-then-bits-ge-NUMBER : goal.returns-then-bits-ge-NUMBER
 returns-then-bits-ge-NUMBER c = fits_all c.args.w c.args.c _ c.ranges.v.fits (rw c.bits_in-bits.ensures at c.if-bits-ge-NUMBER.true)
