@@ -75,7 +75,7 @@ pub fn class_of(a: Answer) -> Class
 pub fn is_done(a: Answer) -> bool
     ensures { result ≡ is_done a }
 {
-    class_of(a) == Class::Done
+    a == Answer::Done
 }
 
 // The call was refused.

@@ -124,14 +124,13 @@ impl Device {
     pub fn setting(self) -> Setting
         ensures { result ≡ setting_of self }
     {
-        let registers = self.registers;
         Setting {
             part: Part::of(self.make.part),
             wires: mode_wires(self.volatile.mode),
             n: self.make.n,
             asleep: self.volatile.asleep,
             toggle: self.volatile.toggle,
-            registers,
+            registers: self.registers,
         }
     }
 }
