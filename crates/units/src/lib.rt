@@ -188,6 +188,7 @@ pub fn bytes_to_clocks(b: Bytes, w: Wires) -> Clocks
 }
 
 // The same for any number of bytes, but no more clocks than there are.
+#[tactic(auto, unfolding(crate::specs::Units::clocks_within))]
 pub fn clocks_within(b: Bytes, w: Wires, all: Clocks) -> Clocks
     ensures { result ≡ clocks_within w b all }
 {
