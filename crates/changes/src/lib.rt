@@ -145,8 +145,5 @@ fn kind_needs(cr4: u8, k: Kind) -> bool
 fn after_burst(cr4: u8, latch: bool) -> bool
     ensures { result ≡ after_burst cr4 latch }
 {
-    match cr4 % 4 {
-        0 => false,
-        _ => latch,
-    }
+    cr4 % 4 != 0 && latch
 }

@@ -7,7 +7,8 @@ use kinds::{Kind, ReadForm, Register, Source, Target, WriteForm};
 use parts::Part;
 use units::{Bytes, Clocks, Wires};
 
-// What the address of a command names, if it has one.
+// What the address of a command names, if it has one. That there is none is a case like the others, in which every address is
+// allowed, and the definitions go by all six (`allowed_of`, `address_length`).
 #[derive(Clone, Copy, PartialEq, Eq)]
 pub enum Address {
     Absent,
@@ -18,7 +19,7 @@ pub enum Address {
     Ignored,
 }
 
-// The data of a command: none, so many bytes, or as many as are clocked.
+// The data of a command: none, so many bytes, or as many as are clocked; the definitions go by all five cases (`data_of`).
 #[derive(Clone, Copy, PartialEq, Eq)]
 pub enum Body {
     Nothing,

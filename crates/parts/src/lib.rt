@@ -194,6 +194,8 @@ impl Part {
     }
 }
 
+// Lengths and shares are read from tables, as document 01 asks.
+
 // Bytes of an aligned group of the MRAM, by the code in configuration 3. The codes that a record cannot
 // have go on in the same way.
 const WRAPS: [usize; 8] = [16, 32, 64, 128, 256, 512, 1024, 2048];

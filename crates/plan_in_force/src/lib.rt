@@ -1,5 +1,8 @@
 // The plan in force: how many clocks each phase of a transaction has, and what its data is, once it is known
 // whether the command is answered at all.
+//
+// Setting, kind and address are parameters of their own here and not an `Aim`: half of the functions have no address, callers hold
+// the setting apart from the `Progress` with kind and address, and the definitions, which theorems speak of, take them apart.
 #![tactic(auto)]
 
 ghost use Rattle.std.specs.Prelude.{◌≡◌, ◌≤◌};
