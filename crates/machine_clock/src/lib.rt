@@ -156,7 +156,7 @@ fn data_step(h: Terms, p: Progress, x: u8, memory: &mut [u8], area: &mut [u8]) -
     let value = g.value;
     let tally = p.tally;
     let ticked = tally.counts;
-    let counts = ticked.body_tick();
+    let counts = ticked.tick(Phase::Data);
     let now = counts.body;
     let next = Tally { counts, value };
     let body = plan_in_force::body_for(s, kind, p.address);
