@@ -1,6 +1,7 @@
 -- What a call gives and leaves in its buffer, as the paper tells it (D61): what was made is told with 0, and a refusal tells its answer and makes nothing.
 use Rattle.std.specs.Prelude.{◌≡◌, ℕ, false, List, Ok, Err}
-use Rattle.std.specs.Result.{Result, IfErr}
+use Rattle.std.specs.declared.result.Result.{Result}
+use Rattle.std.specs.Result.{IfErr}
 use Rattle.units.specs.declared.Clocks.{Clocks}
 use Rattle.units.specs.declared.Bytes.{Bytes}
 use Rattle.units.specs.Units.{clocks, bytes}

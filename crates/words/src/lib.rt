@@ -15,27 +15,22 @@ pub const NUMBER: usize = 1;
 pub fn put_counts(c: Counts, words: &mut [usize])
     ensures { words.new ≡ counts_over c words.old }
 {
-    if words.len() != COUNTS {
-        return;
+    if words.len() == COUNTS {
+        words.copy_from_slice(&[
+            c.command.in_clocks(),
+            c.address.in_clocks(),
+            c.wait.in_clocks(),
+            c.body.in_clocks(),
+            c.rest.in_clocks(),
+        ]);
     }
-    let command = c.command;
-    let address = c.address;
-    let wait = c.wait;
-    let body = c.body;
-    let rest = c.rest;
-    words[0] = command.in_clocks();
-    words[1] = address.in_clocks();
-    words[2] = wait.in_clocks();
-    words[3] = body.in_clocks();
-    words[4] = rest.in_clocks();
 }
 
 // One number, put into the one word that is lent for it.
 pub fn put_number(n: usize, words: &mut [usize])
     ensures { words.new ≡ number_over n words.old }
 {
-    if words.len() != NUMBER {
-        return;
+    if let [word] = words {
+        *word = n;
     }
-    words[0] = n;
 }

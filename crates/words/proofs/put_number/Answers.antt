@@ -1,14 +1,15 @@
--- `words::put_number` meets its contract: the one word, where there is one.
--- Assumes nothing.
-use Rattle.words.specs.Laws.{one_set}
-use Rattle.words.specs.Words.{number_over}
-use borrow.Author.Tests.{eq-eqb, ne_eqb}
+use Rattle.std.proofs.Common.{rules, ◌≡◌, ℕ, ◌+◌, ◌-◌, ◌*◌, ◌<◌, ◌≤◌, length, ◌/◌, ◌%◌, Bool, true, false, nat_eq, nat_lt, List, [], ◌∷◌, ◌++◌, slice_index_or, slice_set, bit_and, bit_or, Fits, w8, w32, w64, Bor, MutBor}
+use Rattle.words.specs.Words.{counts_over, number_over}
 use Rattle.words.proofs.put_number.Goals as goal
 
-pub returns-then-words-ne-NUMBER : goal.returns-then-words-ne-NUMBER
-unfolding number_over
-returns-then-words-ne-NUMBER c = rw (ne_eqb _ _ c.if-words-ne-NUMBER.true)
+-- src/lib.rt:30:1
+pub returns-then-words-lt1 : goal.returns-then-words-lt1
+returns-then-words-lt1 c = ?
 
-pub returns : goal.returns
-unfolding number_over
-returns c = rw (eq-eqb _ _ c.if-words-ne-NUMBER.false) (one_set c.args.words.now c.args.n c.if-words-ne-NUMBER.false)
+-- src/lib.rt:30:1
+pub returns-in-len1 : goal.returns-in-len1
+returns-in-len1 c = ?
+
+-- src/lib.rt:30:1
+pub returns-else-words-lt2 : goal.returns-else-words-lt2
+returns-else-words-lt2 c = ?
