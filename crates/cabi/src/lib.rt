@@ -86,7 +86,10 @@ pub extern "C" fn tondravik_transact(
     if counts.len() != COUNTS {
         return unroomed(image);
     }
-    tell(image_calls::transact(image, memory, area, samples, output), counts)
+    tell(
+        image_calls::transact(image, memory, area, samples, output),
+        counts,
+    )
 }
 
 // A power cycle. No clock is counted, and no words are lent for counts.

@@ -126,7 +126,13 @@ pub fn close(image: &mut [u8], memory: &[u8], area: &[u8]) -> Reply
 
 // A fresh chip of a part of the MRAM, with its four bytes of device identity and its unique number. Whatever the bytes were, they
 // are written over, so that only their number is looked at.
-fn fresh_mram(part: Part, n: u8, device: &[u8], unique: &[u8], image: &mut [u8]) -> Result<(), Answer>
+fn fresh_mram(
+    part: Part,
+    n: u8,
+    device: &[u8],
+    unique: &[u8],
+    image: &mut [u8],
+) -> Result<(), Answer>
     requires { family_of part ≡ Mram }
     ensures told { made_in result image.new ≡ fresh_mram_in part n device.now unique.now image.old }
     ensures refused { IfErr result (λ v. is_done v ≡ false) }

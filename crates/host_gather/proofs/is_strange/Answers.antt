@@ -11,8 +11,8 @@ returns-then-not-is_driven c = sym (strange_stop _ _ _ c.loop-x-test.true c.if-x
 pub loop-x-preserved : goal.loop-x-preserved
 loop-x-preserved c =
     elim c.else-x-ne0.branch [
-      else-x-ne0-via-then-x-ne0+else-not-is_driven w ↦
-        sym (strange_on _ _ _ c.loop-x-test.true w.if-x-ne0.true (sym w.is_driven.ensures ∙ w.if-not-is_driven.false)) ∙ c.loop-x.invariant
+      | else-x-ne0-via-then-x-ne0+else-not-is_driven w ↦
+          sym (strange_on _ _ _ c.loop-x-test.true w.if-x-ne0.true (sym w.is_driven.ensures ∙ w.if-not-is_driven.false)) ∙ c.loop-x.invariant
       | else-x-ne0-via-else-x-ne0 w ↦ sym (strange_skip _ _ _ c.loop-x-test.true w.if-x-ne0.false) ∙ c.loop-x.invariant
     ]
 
