@@ -53,6 +53,12 @@ pub fn digest_column(page: &mut Page, bytes: &[u8]) -> fmt::Result {
     write!(page, " {:08X}", digest(bytes))
 }
 
+// A buffer of any length. It comes out of a function, so that a proof has its length from its type: where a large array is
+// written out, the prover follows it element by element and gives up.
+pub fn room<const N: usize>() -> [u8; N] {
+    [0; N]
+}
+
 // A buffer that shows what is written to it later.
 pub fn fill(out: &mut [u8]) {
     out.fill(0xA5);
