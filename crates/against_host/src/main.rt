@@ -2,14 +2,14 @@
 // it tells, and a digest of the whole buffer that was lent. The second program prints the same.
 #![tactic(auto)]
 
-use against_input::{Cut, take, take_head};
-use bench_columns::{cut, digest_column, fill, room};
+use against_input::{Cut, play, take, take_head};
+use bench_columns::{digest_column, fill, room};
 use buffers::number_of;
 use host_order::Order;
 use record::Answer;
 use std::fmt;
 use std::fmt::Write;
-use text::{Page, flush, flush_full};
+use text::Page;
 use units::Bytes;
 
 // A call of the host half: a command becomes samples, or what was driven on so many wires becomes bytes.
@@ -27,15 +27,11 @@ struct Request {
     room: usize,
 }
 
-// A number that stands for no call.
-#[derive(Clone, Copy)]
-struct UnknownCall;
-
 // The request that 24 bytes spell.
 impl TryFrom<[u8; 24]> for Request {
-    type Error = UnknownCall;
+    type Error = Cut;
 
-    fn try_from(h: [u8; 24]) -> Result<Self, UnknownCall> {
+    fn try_from(h: [u8; 24]) -> Result<Self, Cut> {
         let order = Order {
             part: h[1],
             opcode: h[2],
@@ -47,7 +43,7 @@ impl TryFrom<[u8; 24]> for Request {
         let call = match h[0] {
             1 => Call::Build(order),
             2 => Call::Gather(h[1]),
-            _ => return Err(UnknownCall),
+            _ => return Err(Cut),
         };
         Ok(Request {
             call,
@@ -77,33 +73,17 @@ fn put_line(page: &mut Page, k: u64, c: Call, input: &[u8], buffer: &mut [u8]) -
     writeln!(page)
 }
 
-// Request `k`, where there is one, with its data, on a buffer of its room. Tells whether there was one.
+// Request `k`, where there is one, with its data, on a buffer of its room.
 fn turn(page: &mut Page, k: u64, input: &mut [u8], buffer: &mut [u8]) -> Result<bool, Cut> {
     let Some(head) = take_head()? else {
         return Ok(false);
     };
-    let r = Request::try_from(head).map_err(|_| Cut)?;
+    let r = Request::try_from(head)?;
     let input = input.get_mut(..r.long).ok_or(Cut)?;
     let buffer = buffer.get_mut(..r.room).ok_or(Cut)?;
     take(input)?;
     let _ = put_line(page, k, r.call, input, buffer);
-    flush_full(page);
     Ok(true)
-}
-
-// All requests, to the end or to one that is not whole.
-fn all(page: &mut Page, input: &mut [u8], buffer: &mut [u8]) {
-    for k in 1..=1000000 {
-        match turn(page, k, input, buffer) {
-            Ok(true) => {}
-            Ok(false) => break,
-            Err(Cut) => {
-                cut(page);
-                break;
-            }
-        }
-    }
-    flush(page);
 }
 
 fn main() {
@@ -111,5 +91,7 @@ fn main() {
     // a generated request has no more room than a few bytes over 65,536
     let mut buffer = room::<131072>();
     let mut text = io::large_buffer();
-    all(&mut Page::begun(&mut text, 0), &mut input, &mut buffer);
+    play(&mut Page::begun(&mut text, 0), |page, k| {
+        turn(page, k, &mut input, &mut buffer)
+    });
 }

@@ -1,8 +1,11 @@
-// Input of the programs that are held against the second one. Many tapes in one input stand each behind its length in four
-// bytes.
+// Input of the programs that are held against the second one: heads of so many bytes, each with what follows it, or tapes, each
+// behind its length in four bytes.
 #![tactic(auto)]
 
-// The input ends before all is there that was asked of it.
+use bench_columns::cut;
+use text::{Page, flush, flush_full};
+
+// The input ends before all is there that it asks for, or asks for what there is not.
 #[derive(Clone, Copy, PartialEq, Eq)]
 pub struct Cut;
 
@@ -47,4 +50,22 @@ pub fn take_tape(tape: &mut [u8]) -> Result<Option<usize>, Cut> {
         None => pass_over(long)?,
     }
     Ok(Some(long))
+}
+
+// Turns by their number, each putting its line on the page, until one finds the input at its end or cut. A turn tells whether
+// there was something.
+pub fn play<F: FnMut(&mut Page, u64) -> Result<bool, Cut>>(page: &mut Page, mut turn: F)
+    requires { F.IsAlwaysCallable turn }
+{
+    for k in 1..=1000000 {
+        match turn(page, k) {
+            Ok(true) => flush_full(page),
+            Ok(false) => break,
+            Err(Cut) => {
+                cut(page);
+                break;
+            }
+        }
+    }
+    flush(page);
 }

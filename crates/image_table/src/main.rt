@@ -13,28 +13,64 @@ const FIELDS: [(Field, &str, Option<&str>); 27] = [
     (Field::N, "n", Some("N")),
     (Field::BesideMake, "spare", None),
     (Field::Status, "status", Some("STATUS")),
-    (Field::AreaProtection, "area protection", Some("AREA_PROTECTION")),
-    (Field::Configuration1, "configuration 1", Some("CONFIGURATION_1")),
-    (Field::Configuration2, "configuration 2", Some("CONFIGURATION_2")),
-    (Field::Configuration3, "configuration 3", Some("CONFIGURATION_3")),
-    (Field::Configuration4, "configuration 4", Some("CONFIGURATION_4")),
+    (
+        Field::AreaProtection,
+        "area protection",
+        Some("AREA_PROTECTION"),
+    ),
+    (
+        Field::Configuration1,
+        "configuration 1",
+        Some("CONFIGURATION_1"),
+    ),
+    (
+        Field::Configuration2,
+        "configuration 2",
+        Some("CONFIGURATION_2"),
+    ),
+    (
+        Field::Configuration3,
+        "configuration 3",
+        Some("CONFIGURATION_3"),
+    ),
+    (
+        Field::Configuration4,
+        "configuration 4",
+        Some("CONFIGURATION_4"),
+    ),
     (Field::ModeRegister, "mode register", Some("MODE_REGISTER")),
     (Field::BusMode, "bus mode", Some("BUS_MODE")),
     (Field::Latch, "latch, a flag", Some("LATCH")),
     (Field::Armed, "armed, a flag", Some("ARMED")),
     (Field::Asleep, "asleep, a flag", Some("ASLEEP")),
     (Field::Toggle, "toggle, a flag", Some("TOGGLE")),
-    (Field::DeviceIdentity, "device identity", Some("DEVICE_IDENTITY")),
+    (
+        Field::DeviceIdentity,
+        "device identity",
+        Some("DEVICE_IDENTITY"),
+    ),
     (Field::UniqueNumber, "unique number", Some("UNIQUE_NUMBER")),
     (Field::SerialNumber, "serial number", Some("SERIAL_NUMBER")),
     (Field::BesideIdentities, "spare", None),
-    (Field::Selected, "selected: a transaction is open, a flag", Some("SELECTED")),
+    (
+        Field::Selected,
+        "selected: a transaction is open, a flag",
+        Some("SELECTED"),
+    ),
     (Field::Opcode, "its opcode", Some("OPCODE")),
     (Field::BesideOpcode, "spare", None),
     (Field::Clocks, "its clocks so far", Some("CLOCKS")),
     (Field::Address, "its address", Some("ADDRESS")),
-    (Field::Number, "the number that is being gathered", Some("NUMBER")),
-    (Field::Value, "the bytes of a register write so far", Some("VALUE")),
+    (
+        Field::Number,
+        "the number that is being gathered",
+        Some("NUMBER"),
+    ),
+    (
+        Field::Value,
+        "the bytes of a register write so far",
+        Some("VALUE"),
+    ),
     (Field::BesideValue, "spare", None),
 ];
 
@@ -58,7 +94,10 @@ fn header_row(page: &mut Page, f: Field, word: &str) -> fmt::Result {
 
 // The table, and the lines for the header; the number of all bytes is the last.
 fn put_tables(page: &mut Page) -> fmt::Result {
-    write!(page, "| offset | bytes | field | in C |\n|---|---|---|---|\n")?;
+    write!(
+        page,
+        "| offset | bytes | field | in C |\n|---|---|---|---|\n"
+    )?;
     for (f, name, word) in FIELDS {
         page_row(page, f, name, word)?;
     }
