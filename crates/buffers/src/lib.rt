@@ -8,6 +8,7 @@ ghost use Rattle.buffers.specs.Shown.{shown};
 use std::fmt;
 
 // The buffer, and the place where the next byte goes.
+#[derive(Drop)]
 pub struct Page<'a> {
     bytes: &'a mut [u8],
     at: usize,
