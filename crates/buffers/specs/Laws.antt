@@ -58,6 +58,10 @@ module _ {xs : List ℕ} {before : Page} {ys : List ℕ} {p : Page} (f : Left xs
   unfolding puts_of
   all_put e = rw e at f.left
 
+-- a page that is let go: its place, and its buffer as it then is
+pub ended : {p q : Page} {at : ℕ} {out : List ℕ} → p ≡ q → at ≡ p.at → out ≡ p.buffer → page at out ≡ q
+ended e a o = rw (a, o) e
+
 -- where there is no room, nothing is put
 full_kept : (xs : List ℕ) (p : Page) → length p.buffer ≤ p.at → puts_of xs p ≡ p
 unfolding puts_of put_of

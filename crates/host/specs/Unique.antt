@@ -1,35 +1,44 @@
 -- UNIQUE for the host half's two calls.
 -- Assumes nothing.
-use Rattle.std.specs.Prelude.{◌≡◌, refl, ℕ, List}
-use Rattle.basis.specs.Unique.{unique}
+use Rattle.std.specs.Prelude.{◌≡◌, refl, ℕ, cond, List, Ok, Err}
+use Rattle.std.specs.declared.result.Result.{Result}
+use Rattle.std.proofs.Common.{sym, ap, ◌∙◌}
 use Rattle.units.specs.declared.Clocks.{Clocks}
 use Rattle.units.specs.declared.Bytes.{Bytes}
+use Rattle.units.specs.Units.{clocks, bytes}
+use Rattle.record.specs.declared.answers.Answer.{Answer}
+use Rattle.record.specs.Answers.{is_done}
 use Rattle.paper.specs.Building.{Order, Told, build_of}
 use Rattle.paper.specs.Collecting.{collect_of}
-use Rattle.host.specs.declared.Built.{Built}
-use Rattle.host.specs.declared.Gathered.{Gathered}
-use Rattle.host.specs.Results.{built_as, gathered_as}
+use Rattle.host.specs.Results.{result_as, built_as, gathered_as, NeverDone}
 
 -- a result of either call, and the buffer as the call leaves it
-pub record Ended (R : Type 0) : Type 0 where
-  pub result : R
+pub record Ended (U : Type 0) : Type 0 where
+  pub result : Result U Answer
   pub buffer : List ℕ
 
-abbrev pub shows_built : Ended Built → Told Clocks
+abbrev pub shows_built : Ended Clocks → Told Clocks
 shows_built x = built_as x.result x.buffer
 
-abbrev pub shows_gathered : Ended Gathered → Told Bytes
+abbrev pub shows_gathered : Ended Bytes → Told Bytes
 shows_gathered x = gathered_as x.result x.buffer
 
-abbrev finds_built : Told Clocks → Ended Built
-finds_built t = record { result = record { answer = t.answer; clocks = t.number }; buffer = t.buffer }
+-- what is told is found again: what was done is `Ok`, and every other answer `Err`
+abbrev found : {U : Type 0} → Told U → Ended U
+found t = record { result = cond (is_done t.answer) (Ok t.number) (Err t.answer); buffer = t.buffer }
 
-abbrev finds_gathered : Told Bytes → Ended Gathered
-finds_gathered t = record { result = record { answer = t.answer; bytes = t.number }; buffer = t.buffer }
+module _ {U : Type 0} (unit : ℕ → U) (out : List ℕ) where
+  found_again : (r : Result U Answer) → NeverDone r → found (result_as unit r out) ≡ record { result = r; buffer = out }
+  found_again (Ok u) n = refl
+  found_again (Err v) n = rw n
 
-pub build_unique : (o : Order) (out : List ℕ) {x y : Ended Built} → shows_built x ≡ build_of o out → shows_built y ≡ build_of o out → x ≡ y
-build_unique o out = unique shows_built finds_built (λ x. refl)
+one_end : {U : Type 0} (unit : ℕ → U) {x y : Ended U} {t : Told U} → NeverDone x.result → NeverDone y.result → result_as unit x.result x.buffer ≡ t → result_as unit y.result y.buffer ≡ t
+    → x ≡ y
+one_end unit {x} {y} n m e f = sym (found_again unit x.buffer x.result n) ∙ (ap found (e ∙ sym f) ∙ found_again unit y.buffer y.result m)
 
-pub gather_unique : (wires : ℕ) (driven out : List ℕ) {x y : Ended Gathered} → shows_gathered x ≡ collect_of wires driven out
+pub build_unique : (o : Order) (out : List ℕ) {x y : Ended Clocks} → NeverDone x.result → NeverDone y.result → shows_built x ≡ build_of o out → shows_built y ≡ build_of o out → x ≡ y
+build_unique o out = one_end clocks
+
+pub gather_unique : (wires : ℕ) (driven out : List ℕ) {x y : Ended Bytes} → NeverDone x.result → NeverDone y.result → shows_gathered x ≡ collect_of wires driven out
     → shows_gathered y ≡ collect_of wires driven out → x ≡ y
-gather_unique wires driven out = unique shows_gathered finds_gathered (λ x. refl)
+gather_unique wires driven out = one_end bytes

@@ -1,24 +1,27 @@
 -- Laws of collecting: what each sample adds, and the bytes clock by clock.
 -- Assumes nothing.
-use Rattle.std.specs.Prelude.{◌≡◌, ℕ, suc, ◌+◌, ◌/◌, ◌%◌, ◌<◌, ◌≤◌, Bool, true, false, cond, eqb, get_or, drop}
+use Rattle.std.specs.Prelude.{◌≡◌, ℕ, suc, ◌+◌, ◌/◌, ◌%◌, ◌<◌, ◌≤◌, Bool, true, false, cond, not, ◌&&◌, ◌||◌, eqb, get_or, drop, count_by}
 use Rattle.std.proofs.Math.Path.{refl, ap}
+use Rattle.std.proofs.Math.Numerals.{one-add}
 use Rattle.std.proofs.Common.{sym, ◌∙◌, length-append, drop_of_length-le, take_at, drop_at}
 use Rattle.std.proofs.Math.Nat.{div-eq_of_lt}
+use Rattle.std.proofs.lemmas.Bool.{eqb-true, eqb-false}
+use Rattle.std.proofs.lemmas.List.Recursion.{is_count_by}
 use native.Mathlib.Omega.{arith}
 use mathlib.Core.List.{List, [], ◌∷◌, ◌++◌, append-nil}
 use Rattle.std.proofs.Math.ListN.{length}
 use Rattle.std.proofs.Math.Seq.{append_snoc}
-use borrow.Author.Tests.{eq-eqb, ne_eqb, leb-true, leb-false}
+use borrow.Author.Tests.{eq-eqb, ne_eqb}
 use Rattle.units.specs.declared.Clocks.{Clocks}
 use Rattle.units.specs.declared.Wires.{Wires}
 use Rattle.units.specs.declared.Wires.TheVariants.{One, Two, Four}
-use Rattle.units.specs.Units.{clocks, next, less, at_most, per_byte, whole_of, unfinished_of}
+use Rattle.units.specs.Units.{clocks, next, per_byte, whole_of, unfinished_of}
 use Rattle.units.specs.Laws.{per_byte_pos, per_byte_le}
 use Rattle.wires.specs.Bits.{shift_of, gather_from, gather}
 use Rattle.wires.proofs.Laws.{gather_append, gather_byte}
 use Rattle.wires.specs.Levels.{seen_of, driven_of}
 use Rattle.buffers.specs.Page.{Page, put_of}
-use Rattle.buffers.specs.Laws.{Left, none_put, put_one, drop_one}
+use Rattle.buffers.specs.Laws.{Left, none_put, put_next, drop_one}
 use Rattle.paper.specs.Reading.{bytes_in, data_bytes}
 use Rattle.paper.specs.Laws.{bytes_many}
 use Rattle.paper.specs.Building.{many_bytes}
@@ -61,37 +64,14 @@ module _ (w : Wires) (xs : List ℕ) (i : ℕ) where
   strange_end h = rw (drop_of_length-le xs h)
 
 -- ---- how many
--- of all clocks the silent ones so far are taken off: the driven ones so far are left, and those that come
-pub record Counted (xs : List ℕ) (count : Clocks) (i : ℕ) : Type 0 where
-  pub seen : i ≤ length xs
-  pub some : length xs ≤ count.0 + i
-  pub left : count.0 + i + count_of (drop i xs) ≡ length xs + count_of xs
+-- the driven ones are those that are not silent
+not_silent : (b : Bool) (n : ℕ) → cond b n (suc n) ≡ cond (not b) (1 + n) n
+not_silent true n = refl
+not_silent false n = sym (one-add n)
 
-pub none_counted : (xs : List ℕ) {c : Clocks} → c ≡ clocks (length xs) → Counted xs c 0
-none_counted xs e = rw e (record { seen = omega arith; some = omega arith; left = omega arith })
-
-module _ {xs : List ℕ} {count : Clocks} {i : ℕ} (f : Counted xs count i) where
-  module _ {one : Clocks} (o : one ≡ clocks 1) (h : i < length xs) where
-    pub count_fits : one.0 ≤ count.0
-    count_fits = let l = f.some in rw o (omega arith)
-
-    pub count_skip : {c : Clocks} → c ≡ less count one → get_or xs i 0 ≡ 0 → Counted xs c (i + 1)
-    unfolding count_of
-    count_skip d e =
-        let k = rw (drop_one xs i h, eq-eqb (get_or xs i 0) 0 e) at f.left in
-        let l = f.some in
-        rw (d, o) (record { seen = omega arith; some = omega arith; left = omega arith })
-
-  pub count_more : i < length xs → (get_or xs i 0 ≡ 0 → ⊥) → Counted xs count (i + 1)
-  unfolding count_of
-  count_more h n =
-      let k = rw (drop_one xs i h, ne_eqb (get_or xs i 0) 0 n) at f.left in
-      let l = f.some in
-      record { seen = omega arith; some = omega arith; left = omega arith }
-
-  pub count_end : length xs ≤ i → count ≡ driven_in xs
-  unfolding count_of
-  count_end h = let k = rw (drop_of_length-le xs {i = i} h) at f.left in let l = f.seen in ap clocks (omega arith)
+pub count_driven : (xs : List ℕ) → count_of xs ≡ count_by (λ x. not (eqb x 0)) xs
+unfolding count_of
+count_driven xs = is_count_by count_of (λ x. not (eqb x 0)) refl (λ y ys. not_silent (eqb y 0) (count_of ys)) xs
 
 module _ (w : Wires) where
   count_step : (b : Bool) (v n : ℕ) (ys : List ℕ) → length ys ≡ n → length (cond b ys (v ∷ ys)) ≡ cond b n (suc n)
@@ -177,19 +157,17 @@ module _ {w : Wires} {xs : List ℕ} {before : Page} {number : ℕ} {had : Clock
     had_lt = rw f.many_begun f.few
 
     -- and is not the last of its byte
-    pub begun_more : at_most c (clocks 0) ≡ false → Begun w xs before m c (i + 1) p
+    pub begun_more : eqb c.0 0 ≡ false → Begun w xs before m c (i + 1) p
     begun_more d =
-        let g = leb-false c.0 0 d in
-        let z : c.0 ≡ 0 → ⊥ = λ e. omega arith in
+        let z : c.0 ≡ 0 → ⊥ = eqb-false c.0 0 d in
         let k = count_on w had.0 had_lt (rw u at z) in
         record { begun = then; many_begun = rw u (k.0 ∙ sym then_length); few = rw then_length k.1; spelt = then_spelt; rest = then_left }
 
     -- and is the last
-    pub begun_full : {q : Page} → at_most c (clocks 0) ≡ true → q ≡ put_of (m % 256) p → length q.buffer ≡ length p.buffer → Begun w xs before 0 c (i + 1) q
+    pub begun_full : {q : Page} → eqb c.0 0 ≡ true → q ≡ put_of (m % 256) p → Begun w xs before 0 c (i + 1) q
     unfolding gather_from
-    begun_full d e l =
-        let g = leb-true c.0 0 d in
-        let z : c.0 ≡ 0 = omega arith in
+    begun_full d e =
+        let z : c.0 ≡ 0 = eqb-true c.0 0 d in
         let t : length then ≡ per_byte w = then_length ∙ count_full w had.0 had_lt (rw u at z) in
         let b : m % 256 ≡ gather w then = rw then_spelt (gather_byte w then (omega arith)) in
         record {
@@ -197,7 +175,7 @@ module _ {w : Wires} {xs : List ℕ} {before : Page} {number : ℕ} {had : Clock
           many_begun = z;
           few = per_byte_pos w;
           spelt = refl;
-          rest = put_one then_left (data_cons w then (seen_in w (drop (i + 1) xs)) t) (rw b at e) l;
+          rest = put_next then_left (data_cons w then (seen_in w (drop (i + 1) xs)) t) (rw b at e);
         }
 
 pub begun_few : {w : Wires} {xs : List ℕ} {before : Page} {number : ℕ} {had : Clocks} {i : ℕ} {p : Page} → Begun w xs before number had i p → had.0 < 8

@@ -1,11 +1,13 @@
 // Bytes from what the device drives: which samples it never drives, how many bytes the others make, and the bytes.
 #![tactic(auto)]
 
-ghost use Rattle.std.specs.Prelude.{◌≡◌};
+ghost use Rattle.std.specs.Prelude.{◌≡◌, false, MatchResult};
+ghost use Rattle.record.specs.declared.answers.Answer.TheVariants.{Done};
+ghost use Rattle.record.specs.Answers.{is_done};
 ghost use Rattle.buffers.specs.Page.{page, puts_of};
 ghost use Rattle.paper.specs.Building.{many_bytes};
 ghost use Rattle.paper.specs.Collecting.{is_wires, strange, collected};
-ghost use Rattle.host_gather.specs.Refusals.{refused_by, driven_in};
+ghost use Rattle.host_gather.specs.Refusals.{refusal_of, driven_in};
 
 use buffers::Page;
 use record::{Answer, mode_wires};
@@ -23,7 +25,12 @@ fn is_wires(n: u8) -> bool
 fn is_strange(w: Wires, driven: &[u8]) -> bool
     ensures { result ≡ strange w driven.now }
 {
-    driven.iter().any(|x| *x != 0 && !is_driven(*x, w))
+    for x in driven {
+        if *x != 0 && !is_driven(*x, w) {
+            return true;
+        }
+    }
+    false
 }
 
 // The clocks in which it drives: all but the silent ones.
@@ -42,7 +49,7 @@ fn bytes_driven(w: Wires, driven: &[u8]) -> Bytes
 
 // The first row that holds.
 pub fn refusal(n: u8, driven: &[u8], bytes: &[u8]) -> Result<(), Answer>
-    ensures { refused_by result n driven.now bytes.now }
+    ensures { MatchResult result (λ u. refusal_of n driven.now bytes.now ≡ Done) (λ v. (v ≡ refusal_of n driven.now bytes.now) × (is_done v ≡ false)) }
 {
     if !is_wires(n) {
         return Err(Answer::Unknown);

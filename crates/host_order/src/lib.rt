@@ -7,7 +7,7 @@ ghost use Rattle.units.specs.Units.{bytes, fewer_bytes};
 ghost use Rattle.paper.specs.Building.{asked, addressed, beyond, overlong, too_few, too_many, kind_asked, body_asked};
 ghost use Rattle.host_order.specs.Orders.{order_as};
 
-use commands::plans::{Address, Body, address_of, body_of};
+use commands::plans::{Address, Body, address_of, body_of, waits_by_register};
 use kinds::{Kind, Source};
 use opcodes::kind_of;
 use parts::Part;
@@ -33,10 +33,10 @@ pub struct Order {
 pub fn kind_asked(o: Order) -> Kind
     ensures { result ≡ kind_asked (order_as o []) }
 {
-    if !Part::is_known(o.part) {
+    let Ok(part) = Part::try_from(o.part) else {
         return Kind::Unknown;
-    }
-    let family = Part::of(o.part).family();
+    };
+    let family = part.family();
     if !state_check::mode_allowed(family, o.mode) {
         return Kind::Unknown;
     }
@@ -48,61 +48,38 @@ fn asked_of(k: Kind, b: Body) -> Body
     ensures { result ≡ asked k b }
 {
     match k {
-        Kind::Unknown => b,
-        Kind::Plain(_) => b,
-        Kind::Read(from) => match from {
-            Source::Register(_) => b,
-            Source::Map => Body::FixedRead(Bytes::stated(MOST_OF_REGISTER)),
-            Source::Mode => b,
-            Source::Identity => b,
-            Source::Memory(_) => b,
-            Source::Area => b,
-        },
-        Kind::Write(_) => b,
+        Kind::Read(Source::Map) => Body::FixedRead(Bytes::stated(MOST_OF_REGISTER)),
+        _ => b,
     }
 }
 
 pub fn body_asked(o: Order, k: Kind) -> Body
     ensures { result ≡ body_asked (order_as o []) k }
 {
-    let p = Part::of(o.part);
-    let b = body_of(p, k, o.address);
-    asked_of(k, b)
+    asked_of(k, body_of(Part::of(o.part), k, o.address))
 }
 
 // Whether a command has an address.
 fn is_addressed(a: Address) -> bool
     ensures { result ≡ addressed a }
 {
-    match a {
-        Address::Absent => false,
-        Address::InMemory => true,
-        Address::InArea => true,
-        Address::InMap => true,
-        Address::LowNibbleZero => true,
-        Address::Ignored => true,
-    }
+    !matches!(a, Address::Absent)
 }
 
 // 7: an address that 24 bits do not hold, where there is one.
+#[tactic(auto, unfolding(paper::specs::Building::beyond))]
 pub fn is_beyond(o: Order, k: Kind) -> bool
     ensures { result ≡ beyond k o.address }
 {
-    let a = address_of(k);
-    if !is_addressed(a) {
-        return false;
-    }
-    0xFFFFFF < o.address
+    is_addressed(address_of(k)) && 0xFFFFFF < o.address
 }
 
 // 10: a wait that four bits do not hold, where it stands in configuration 2.
+#[tactic(auto, unfolding(paper::specs::Building::overlong))]
 pub fn is_overlong_wait(o: Order, k: Kind) -> bool
     ensures { result ≡ overlong k o.cr2 }
 {
-    if !commands::plans::waits_by_register(k) {
-        return false;
-    }
-    0x0F < o.cr2
+    waits_by_register(k) && 0x0F < o.cr2
 }
 
 // 4: a register write wants all of its bytes, every other command with data one.
@@ -111,8 +88,7 @@ pub fn is_few(b: Body, wanted: Bytes, written: Bytes) -> bool
 {
     match b {
         Body::Nothing => false,
-        Body::FixedRead(_) => wanted < Bytes::one(),
-        Body::AnyRead => wanted < Bytes::one(),
+        Body::FixedRead(_) | Body::AnyRead => wanted < Bytes::one(),
         Body::FixedWrite(size) => written < size,
         Body::AnyWrite => written < Bytes::one(),
     }
@@ -125,17 +101,13 @@ pub fn is_many(b: Body, wanted: Bytes, written: Bytes) -> bool
     match b {
         Body::Nothing => is_any(wanted, written),
         Body::FixedRead(size) => size < wanted,
-        Body::AnyRead => false,
         Body::FixedWrite(size) => size < written,
-        Body::AnyWrite => false,
+        Body::AnyRead | Body::AnyWrite => false,
     }
 }
 
 fn is_any(wanted: Bytes, written: Bytes) -> bool
     ensures { result ≡ (fewer_bytes (bytes 0) written || fewer_bytes (bytes 0) wanted) }
 {
-    if Bytes::none() < written {
-        return true;
-    }
-    Bytes::none() < wanted
+    Bytes::none() < written || Bytes::none() < wanted
 }

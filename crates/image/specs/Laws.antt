@@ -1,8 +1,10 @@
 -- EACH OFFSET HAS ITS FIELD, and what the code writes is the image.
 -- Assumes nothing.
-use Rattle.std.specs.Prelude.{◌≡◌, ℕ, suc, ◌+◌, ◌<◌, ◌≤◌, List, ◌∷◌, ◌++◌, length, get_or, take, drop, replicate}
+use Rattle.std.specs.Prelude.{◌≡◌, ℕ, suc, ◌+◌, ◌<◌, ◌≤◌, List, [], ◌∷◌, eqb, ◌++◌, length, get_or, take, drop, replicate}
 use Rattle.std.proofs.Math.Path.{refl, ap}
 use Rattle.std.proofs.Common.{sym, ◌∙◌, le_of_eq, add-one, arith, append-nil, drop_of_length-le, drop-cons, take_all}
+use Rattle.std.specs.List.{list_all}
+use Rattle.state_check.specs.States.{zeros}
 use Rattle.buffers.specs.Page.{Page, page, puts_of}
 use Rattle.buffers.specs.Laws.{puts_append, puts_front}
 use Rattle.record.specs.declared.devices.Underway.{Underway}
@@ -71,42 +73,24 @@ eight_whole l e = eight_is l 0 (le_of_eq (sym e)) ∙ take_all 8 l (le_of_eq e)
 
 -- ---- what is put, one stretch after the other
 -- bytes after bytes
-onto : (p : Page) (xs ys : List ℕ) {o₁ o₂ : List ℕ} {i j : ℕ} → page i o₁ ≡ puts_of xs p → page j o₂ ≡ puts_of ys (page i o₁) → page j o₂ ≡ puts_of (xs ++ ys) p
+pub onto : (p : Page) {q r : Page} (xs ys : List ℕ) → q ≡ puts_of xs p → r ≡ puts_of ys q → r ≡ puts_of (xs ++ ys) p
 onto p xs ys e f = f ∙ ap (puts_of ys) e ∙ sym (puts_append xs ys p)
 
 -- over a whole buffer: they are what stands there
 whole : (xs out : List ℕ) → length xs ≡ length out → puts_of xs (page 0 out) ≡ page (length xs) xs
 whole xs out n = puts_front xs out (le_of_eq n) ∙ rw (drop_of_length-le out (le_of_eq (sym n)), append-nil xs)
 
-module _ (d : Device) (out : List ℕ) where
-  abbrev device : List ℕ
-  device = eight_of d.identity.device
+pub image_put : (d : Device) (out : List ℕ) {q r : Page} → length out ≡ image_size → q ≡ puts_of (front_bytes d) (page 0 out) → r ≡ puts_of (back_bytes d.underway) q
+    → r.buffer ≡ image_of d
+unfolding image_of front_bytes back_bytes
+image_put d out n e f = ap (λ (z : Page). z.buffer) (onto (page 0 out) (front_bytes d) (back_bytes d.underway) e f ∙ whole (image_of d) out (sym n))
 
-  abbrev unique : List ℕ
-  unique = eight_of d.identity.unique
+-- so many bytes, each of which is named, are the bytes
+pub eight_put : (p : Page) {q : Page} (l : List ℕ) → length l ≡ 8 → q ≡ puts_of l p → q ≡ puts_of (eight_of l) p
+eight_put p l n e = rw (eight_whole l n) e
 
-  abbrev serial : List ℕ
-  serial = eight_of d.identity.serial
-
-  pub front_put : {o₁ o₂ o₃ o₄ o₅ : List ℕ} {a b c e i : ℕ} → page a o₁ ≡ puts_of (bare_bytes d) (page 0 out) → page b o₂ ≡ puts_of device (page a o₁)
-      → page c o₃ ≡ puts_of unique (page b o₂) → page e o₄ ≡ puts_of serial (page c o₃) → page i o₅ ≡ puts_of (replicate 24 0) (page e o₄)
-      → page i o₅ ≡ puts_of (front_bytes d) (page 0 out)
-  unfolding front_bytes
-  front_put p q r s t =
-      let f = page 0 out in
-      let one = onto f (bare_bytes d) device p q in
-      let two = onto f (bare_bytes d ++ device) unique one r in
-      let three = onto f (bare_bytes d ++ device ++ unique) serial two s in
-      onto f (bare_bytes d ++ device ++ unique ++ serial) (replicate 24 0) three t
-
-  pub image_put : {o₁ o₂ : List ℕ} {i j : ℕ} → length out ≡ image_size → page i o₁ ≡ puts_of (front_bytes d) (page 0 out)
-      → page j o₂ ≡ puts_of (back_bytes d.underway) (page i o₁) → o₂ ≡ image_of d
-  unfolding image_of front_bytes back_bytes
-  image_put n p q = ap (λ (z : Page). z.buffer) (onto (page 0 out) (front_bytes d) (back_bytes d.underway) p q ∙ whole (image_of d) out (sym n))
-
-pub back_put : (u : Underway) (at : ℕ) (out : List ℕ) {o₁ o₂ o₃ : List ℕ} {a b i : ℕ} → page a o₁ ≡ puts_of (open_bytes u) (page at out)
-    → page b o₂ ≡ puts_of (eight_of u.value) (page a o₁) → page i o₃ ≡ puts_of (replicate 40 0) (page b o₂) → page i o₃ ≡ puts_of (back_bytes u) (page at out)
-unfolding back_bytes
-back_put u at out p q r =
-    let f = page at out in
-    onto f (open_bytes u ++ eight_of u.value) (replicate 40 0) (onto f (open_bytes u) (eight_of u.value) p q) r
+-- ---- bytes that are all 0
+pub zeros_is : (xs : List ℕ) → list_all (λ x. eqb x 0) xs ≡ zeros xs
+unfolding zeros
+zeros_is [] = refl
+zeros_is (x ∷ xs) = rw (zeros_is xs)

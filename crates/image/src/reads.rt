@@ -1,36 +1,36 @@
 // From an image to the record that it stands for. Whoever asks has looked at the length.
-ghost use Rattle.std.specs.Prelude.{◌≡◌, ◌+◌, ◌≤◌, length};
+ghost use Rattle.std.specs.Prelude.{◌≡◌, ◌+◌, ◌≤◌, length, take, drop};
 ghost use Rattle.image.specs.Layout.{image_size};
 ghost use Rattle.image.specs.Image.{four_from, eight_from, registers_at, volatile_at, identities_at, underway_at, record_of};
 
 use crate::fields;
-use buffers::number_of;
 use record::{Device, Identities, Make, Registers, Underway, Volatile};
 use units::Clocks;
 
-// A number of four bytes from a place on, the lowest first.
+// So many bytes from a place on.
+fn bytes_at<const N: usize>(image: &[u8], at: usize) -> [u8; N]
+    requires { at + N ≤ length image.now }
+    ensures { result ≡ take N (drop at image.now) }
+{
+    let mut bytes = [0; N];
+    bytes.copy_from_slice(&image[at..at + N]);
+    bytes
+}
+
+// A number of four bytes, the lowest first.
 fn four_at(image: &[u8], at: usize) -> u32
     requires { at + 4 ≤ length image.now }
     ensures { result ≡ four_from at image.now }
 {
-    number_of(image[at], image[at + 1], image[at + 2], image[at + 3])
+    u32::from_le_bytes(bytes_at(image, at))
 }
 
-// Eight bytes from a place on.
+// Eight bytes.
 pub fn eight_at(image: &[u8], at: usize) -> [u8; 8]
     requires { at + 8 ≤ length image.now }
     ensures { result ≡ eight_from at image.now }
 {
-    [
-        image[at],
-        image[at + 1],
-        image[at + 2],
-        image[at + 3],
-        image[at + 4],
-        image[at + 5],
-        image[at + 6],
-        image[at + 7],
-    ]
+    bytes_at(image, at)
 }
 
 fn registers_at(image: &[u8]) -> Registers
@@ -65,13 +65,10 @@ fn identities_at(image: &[u8]) -> Identities
     requires { length image.now ≡ image_size }
     ensures { result ≡ identities_at image.now }
 {
-    let device = eight_at(image, fields::DEVICE_IDENTITY);
-    let unique = eight_at(image, fields::UNIQUE_NUMBER);
-    let serial = eight_at(image, fields::SERIAL_NUMBER);
     Identities {
-        device,
-        unique,
-        serial,
+        device: eight_at(image, fields::DEVICE_IDENTITY),
+        unique: eight_at(image, fields::UNIQUE_NUMBER),
+        serial: eight_at(image, fields::SERIAL_NUMBER),
     }
 }
 
@@ -79,37 +76,30 @@ fn underway_at(image: &[u8]) -> Underway
     requires { length image.now ≡ image_size }
     ensures { result ≡ underway_at image.now }
 {
-    let clocks = Clocks::stated(four_at(image, fields::CLOCKS) as usize);
-    let address = four_at(image, fields::ADDRESS);
-    let number = four_at(image, fields::NUMBER);
-    let value = eight_at(image, fields::VALUE);
     Underway {
         selected: image[fields::SELECTED] == 1,
-        clocks,
+        clocks: Clocks::stated(four_at(image, fields::CLOCKS) as usize),
         opcode: image[fields::OPCODE],
-        address,
-        number,
-        value,
+        address: four_at(image, fields::ADDRESS),
+        number: four_at(image, fields::NUMBER),
+        value: eight_at(image, fields::VALUE),
     }
 }
 
 // The record, whatever it is worth.
+#[tactic(auto, unfolding(crate::specs::Image::record_of))]
 pub fn record_of(image: &[u8]) -> Device
     requires { length image.now ≡ image_size }
     ensures { result ≡ record_of image.now }
 {
-    let registers = registers_at(image);
-    let volatile = volatile_at(image);
-    let identity = identities_at(image);
-    let underway = underway_at(image);
     Device {
         make: Make {
             part: image[fields::PART],
             n: image[fields::N],
         },
-        registers,
-        volatile,
-        identity,
-        underway,
+        registers: registers_at(image),
+        volatile: volatile_at(image),
+        identity: identities_at(image),
+        underway: underway_at(image),
     }
 }

@@ -10,59 +10,35 @@ use crate::fields;
 fn is_clear(bytes: &[u8]) -> bool
     ensures { result ≡ zeros bytes.now }
 {
-    let mut i = 0;
-    while i < bytes.len() {
-        if bytes[i] != 0 {
-            return false;
-        }
-        i += 1;
-    }
-    true
+    bytes.iter().all(|b| *b == 0)
 }
 
+#[tactic(auto, unfolding(crate::specs::Image::flagged))]
 fn has_flags(image: &[u8]) -> bool
     requires { length image.now ≡ image_size }
     ensures { result ≡ flagged image.now }
 {
-    if 1 < image[fields::LATCH] {
-        return false;
-    }
-    if 1 < image[fields::ARMED] {
-        return false;
-    }
-    if 1 < image[fields::ASLEEP] {
-        return false;
-    }
-    if 1 < image[fields::TOGGLE] {
-        return false;
-    }
-    image[fields::SELECTED] <= 1
+    image[fields::LATCH] <= 1
+        && image[fields::ARMED] <= 1
+        && image[fields::ASLEEP] <= 1
+        && image[fields::TOGGLE] <= 1
+        && image[fields::SELECTED] <= 1
 }
 
+#[tactic(auto, unfolding(crate::specs::Image::spared))]
 fn has_spares(image: &[u8]) -> bool
     requires { length image.now ≡ image_size }
     ensures { result ≡ spared image.now }
 {
-    if !is_clear(&image[fields::BESIDE_MAKE..fields::STATUS]) {
-        return false;
-    }
-    if !is_clear(&image[fields::BESIDE_IDENTITIES..fields::SELECTED]) {
-        return false;
-    }
-    if !is_clear(&image[fields::BESIDE_OPCODE..fields::CLOCKS]) {
-        return false;
-    }
-    is_clear(&image[fields::BESIDE_VALUE..fields::IMAGE])
+    is_clear(&image[fields::BESIDE_MAKE..fields::STATUS])
+        && is_clear(&image[fields::BESIDE_IDENTITIES..fields::SELECTED])
+        && is_clear(&image[fields::BESIDE_OPCODE..fields::CLOCKS])
+        && is_clear(&image[fields::BESIDE_VALUE..fields::IMAGE])
 }
 
+#[tactic(auto, unfolding(crate::specs::Image::shaped))]
 pub fn is_shaped(image: &[u8]) -> bool
     ensures { result ≡ shaped image.now }
 {
-    if image.len() != fields::IMAGE {
-        return false;
-    }
-    if !has_flags(image) {
-        return false;
-    }
-    has_spares(image)
+    image.len() == fields::IMAGE && has_flags(image) && has_spares(image)
 }

@@ -1,33 +1,20 @@
 // From a record to its image.
 ghost use Rattle.std.specs.Prelude.{◌≡◌, length};
-ghost use Rattle.buffers.specs.Page.{page, puts_of};
+ghost use Rattle.buffers.specs.Page.{puts_of};
+ghost use Rattle.buffers.specs.Shown.{shown};
 ghost use Rattle.image.specs.Layout.{image_size};
-ghost use Rattle.image.specs.Image.{bit_of, four_of, eight_of, image_of};
+ghost use Rattle.image.specs.Image.{four_of, image_of};
 ghost use Rattle.image.specs.Stretches.{bare_bytes, open_bytes, front_bytes, back_bytes};
 
-use buffers::put_all;
+use buffers::Page;
 use record::{Device, Underway};
-
-// A flag as a byte.
-fn bit_of(up: bool) -> u8
-    ensures { result ≡ bit_of up }
-{
-    if up {
-        return 1;
-    }
-    0
-}
 
 // A number as four bytes, the lowest first.
 fn four_of(n: usize) -> [u8; 4]
     ensures { result ≡ four_of n }
 {
-    [
-        (n % 256) as u8,
-        (n / 256 % 256) as u8,
-        (n / 256 / 256 % 256) as u8,
-        (n / 256 / 256 / 256 % 256) as u8,
-    ]
+    let [a, b, c, d, ..] = n.to_le_bytes();
+    [a, b, c, d]
 }
 
 // What stands before the identities.
@@ -36,10 +23,6 @@ fn bare_bytes(d: Device) -> [u8; 16]
 {
     let r = d.registers;
     let v = d.volatile;
-    let latch = bit_of(v.latch);
-    let armed = bit_of(v.armed);
-    let asleep = bit_of(v.asleep);
-    let toggle = bit_of(v.toggle);
     [
         d.make.part,
         d.make.n,
@@ -53,59 +36,44 @@ fn bare_bytes(d: Device) -> [u8; 16]
         r.cr4,
         r.mr0,
         v.mode,
-        latch,
-        armed,
-        asleep,
-        toggle,
+        u8::from(v.latch),
+        u8::from(v.armed),
+        u8::from(v.asleep),
+        u8::from(v.toggle),
     ]
 }
 
 // The open transaction but for its value.
-fn open_bytes(u: Underway) -> [u8; 16]
-    ensures { result ≡ open_bytes u }
+fn put_open(page: &mut Page, u: Underway)
+    ensures same_buffer { page.new.bytes.ghost_name ≡ page.old.bytes.ghost_name }
+    ensures put { shown page.new ≡ puts_of (open_bytes u) (shown page.old) }
 {
-    let selected = bit_of(u.selected);
-    let all = u.clocks;
-    let c = four_of(all.in_clocks());
-    let a = four_of(u.address as usize);
-    let n = four_of(u.number as usize);
-    [
-        selected, u.opcode, 0, 0, c[0], c[1], c[2], c[3], a[0], a[1], a[2], a[3], n[0], n[1], n[2],
-        n[3],
-    ]
-}
-
-// Eight bytes, put at a place.
-fn put_eight(image: &mut [u8], at: usize, eight: [u8; 8]) -> usize
-    ensures { page result image.new ≡ puts_of (eight_of eight) (page at image.old) }
-{
-    put_all(image, at, &eight)
+    page.put_all(&[u8::from(u.selected), u.opcode, 0, 0]);
+    page.put_all(&four_of(u.clocks.in_clocks()));
+    page.put_all(&four_of(u.address as usize));
+    page.put_all(&four_of(u.number as usize));
 }
 
 // The image up to the open transaction.
-fn put_front(d: Device, image: &mut [u8]) -> usize
-    ensures { page result image.new ≡ puts_of (front_bytes d) (page 0 image.old) }
+fn put_front(page: &mut Page, d: Device)
+    ensures same_buffer { page.new.bytes.ghost_name ≡ page.old.bytes.ghost_name }
+    ensures put { shown page.new ≡ puts_of (front_bytes d) (shown page.old) }
 {
-    let bare = bare_bytes(d);
-    let device = d.identity.device;
-    let unique = d.identity.unique;
-    let serial = d.identity.serial;
-    let a = put_all(image, 0, &bare);
-    let b = put_eight(image, a, device);
-    let c = put_eight(image, b, unique);
-    let e = put_eight(image, c, serial);
-    put_all(image, e, &[0u8; 24])
+    page.put_all(&bare_bytes(d));
+    page.put_all(&d.identity.device);
+    page.put_all(&d.identity.unique);
+    page.put_all(&d.identity.serial);
+    page.put_all(&[0; 24]);
 }
 
 // And from there on.
-fn put_back(u: Underway, image: &mut [u8], at: usize) -> usize
-    ensures { page result image.new ≡ puts_of (back_bytes u) (page at image.old) }
+fn put_back(page: &mut Page, u: Underway)
+    ensures same_buffer { page.new.bytes.ghost_name ≡ page.old.bytes.ghost_name }
+    ensures put { shown page.new ≡ puts_of (back_bytes u) (shown page.old) }
 {
-    let open = open_bytes(u);
-    let value = u.value;
-    let a = put_all(image, at, &open);
-    let b = put_eight(image, a, value);
-    put_all(image, b, &[0u8; 40])
+    put_open(page, u);
+    page.put_all(&u.value);
+    page.put_all(&[0; 40]);
 }
 
 // A record put into a buffer that has an image's length.
@@ -113,7 +81,7 @@ pub fn put_record(d: Device, image: &mut [u8])
     requires { length image.old ≡ image_size }
     ensures { image.new ≡ image_of d }
 {
-    let u = d.underway;
-    let at = put_front(d, image);
-    put_back(u, image, at);
+    let mut page = Page::begun(image, 0);
+    put_front(&mut page, d);
+    put_back(&mut page, d.underway);
 }

@@ -12,21 +12,14 @@ use record::Device;
 pub fn is_valid(d: Device) -> bool
     ensures { result ≡ valid_record d }
 {
-    let number = d.make.part;
-    if !Part::is_known(number) {
+    let Ok(part) = Part::try_from(d.make.part) else {
         return false;
-    }
-    if !is_offered(Part::of(number), d.make.n) {
-        return false;
-    }
-    underway::valid(d)
+    };
+    is_offered(part, d.make.n) && underway::valid(d)
 }
 
 pub fn is_accepted(image: &[u8]) -> bool
     ensures { result ≡ accepted image.now }
 {
-    if !is_shaped(image) {
-        return false;
-    }
-    is_valid(record_of(image))
+    is_shaped(image) && is_valid(record_of(image))
 }

@@ -5,10 +5,10 @@ use Rattle.host_build.specs.Laws.{front_le}
 use Rattle.host_build.specs.Sizes.{front_of}
 use Rattle.host_build.proofs.front_clocks.Goals as goal
 
-pub plus-requires-2 : goal.plus-requires-2
+pub add-requires-2 : goal.add-requires-2
 unfolding front_of
-plus-requires-2 c = rw (c.plus.ensures, c.wait_of-wait.ensures, c.address_length-address.ensures, c.address_of.ensures, c.later_wires.ensures, c.bytes_to_clocks-command.ensures, c.one.ensures) (omega (arith, front_le c.args.k c.args.w c.args.cr2))
+add-requires-2 c = rw (c.add.ensures, c.wait_of-wait.ensures, c.address_length-address.ensures, c.address_of.ensures, c.later_wires.ensures, c.bytes_to_clocks-command.ensures, c.one.ensures) (omega (arith, front_le c.args.k c.args.w c.args.cr2))
 
 pub returns : goal.returns
 unfolding front_of
-returns c = rw (c.plus-2.ensures, c.plus.ensures, c.wait_of-wait.ensures, c.address_length-address.ensures, c.address_of.ensures, c.later_wires.ensures, c.bytes_to_clocks-command.ensures, c.one.ensures)
+returns c = rw (c.add-2.ensures, c.add.ensures, c.wait_of-wait.ensures, c.address_length-address.ensures, c.address_of.ensures, c.later_wires.ensures, c.bytes_to_clocks-command.ensures, c.one.ensures)

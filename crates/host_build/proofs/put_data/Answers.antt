@@ -3,6 +3,6 @@
 use Rattle.buffers.specs.Page.{puts_of}
 use Rattle.host_build.proofs.put_data.Goals as goal
 
-pub returns-in-Nothing : goal.returns-in-Nothing
+pub returns-in-Nothing-clause-put : goal.returns-in-Nothing-clause-put
 unfolding puts_of
-returns-in-Nothing c = rw c.in-Nothing.is
+returns-in-Nothing-clause-put c = rw c.in-Nothing.is

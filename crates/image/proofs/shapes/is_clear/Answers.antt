@@ -1,14 +1,11 @@
--- `image::shapes::is_clear` meets its contract: what is left of the bytes decides as the whole does.
+-- `image::shapes::is_clear` meets its contract: all bytes are 0.
 -- Assumes nothing.
-use mathlib.Core.Path.{sym, ◌∙◌}
-use Rattle.state_check.specs.StateLaws.{zeros_stop, zeros_on, zeros_end}
+use Rattle.std.specs.Prelude.{eqb}
+use Rattle.std.proofs.Common.{◌∙◌, rules}
+use Rattle.std.proofs.lemmas.Iterator.{YieldsList-from_slice}
+use Rattle.std.proofs.lemmas.Iterator.Search.{all_from_yields_List}
+use Rattle.image.specs.Laws.{zeros_is}
 use Rattle.image.proofs.shapes.is_clear.Goals as goal
 
-pub returns-then-bytes-i-ne0 : goal.returns-then-bytes-i-ne0
-returns-then-bytes-i-ne0 c = sym (zeros_stop c.args.bytes.now c.loop-i.i c.loop-i-test.true c.if-bytes-i-ne0.true) ∙ c.loop-i.invariant
-
-pub loop-i-preserved : goal.loop-i-preserved
-loop-i-preserved c = zeros_on c.args.bytes.now c.loop-i.i c.loop-i-test.true c.if-bytes-i-ne0.false ∙ c.loop-i.invariant
-
 pub returns : goal.returns
-returns c = sym (zeros_end c.args.bytes.now c.loop-i.i c.loop-i-test.false) ∙ c.loop-i.invariant
+returns c = all_from_yields_List (λ x. eqb x 0) _ _ _ c.all.ensures.ran (YieldsList-from_slice c.args.bytes.now cc) (λ x b q k. search rules) ∙ zeros_is _

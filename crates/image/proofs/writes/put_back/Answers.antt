@@ -1,7 +1,10 @@
 -- `image::writes::put_back` meets its contract: one stretch after the other.
 -- Assumes nothing.
-use Rattle.image.specs.Laws.{back_put}
+use Rattle.std.proofs.Common.{rules}
+use Rattle.image.specs.Laws.{onto, eight_put}
+use Rattle.image.specs.Stretches.{back_bytes}
 use Rattle.image.proofs.writes.put_back.Goals as goal
 
-pub returns : goal.returns
-returns c = back_put c.args.u c.args.at c.args.image.now (rw c.open_bytes-open.ensures at c.put_all-a.ensures) c.put_eight-b.ensures c.put_all.ensures
+pub returns-clause-put : goal.returns-clause-put
+unfolding back_bytes
+returns-clause-put c = onto _ _ _ (onto _ _ _ c.put_open.ensures.put (eight_put _ _ (search rules) c.put_all.ensures.put)) c.put_all-2.ensures.put
