@@ -24,6 +24,11 @@ put_long b p = by (ltb p.at (length p.buffer))
     by true = length-set p.buffer p.at b
     by false = refl
 
+pub puts_long : (bs : List ℕ) (p : Page) → length (puts_of bs p).buffer ≡ length p.buffer
+unfolding puts_of
+puts_long [] p = refl
+puts_long (b ∷ bs) p = puts_long bs (put_of b p) ∙ put_long b p
+
 -- ON THE WAY: the bytes ys, put on the page p, come to what xs come to on the page before. The buffer keeps its length.
 pub record Left (xs : List ℕ) (before : Page) (ys : List ℕ) (p : Page) : Type 0 where
   pub left : puts_of ys p ≡ puts_of xs before
@@ -44,6 +49,10 @@ module _ {xs : List ℕ} {before : Page} {ys : List ℕ} {p : Page} (f : Left xs
   -- the same of a byte put by its definition
   pub put_next : {b : ℕ} {rest : List ℕ} {q : Page} → ys ≡ b ∷ rest → q ≡ put_of b p → Left xs before rest q
   put_next {b} e d = put_one e d (ap (λ (r : Page). length r.buffer) d ∙ put_long b p)
+
+  -- and of bytes put so
+  pub put_on : (some : List ℕ) {rest : List ℕ} {q : Page} → ys ≡ some ++ rest → q ≡ puts_of some p → Left xs before rest q
+  put_on some e d = put_some some e d (ap (λ (r : Page). length r.buffer) d ∙ puts_long some p)
 
   pub all_put : ys ≡ [] → p ≡ puts_of xs before
   unfolding puts_of

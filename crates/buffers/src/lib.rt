@@ -1,13 +1,14 @@
 // A page: bytes gathered in a lent buffer, one after the other. What finds no room is left out, and the place stays.
 #![tactic(auto)]
 
-ghost use Rattle.std.specs.Prelude.{◌≡◌, ◌+◌, ◌*◌};
+ghost use Rattle.std.specs.Prelude.{◌≡◌, ◌+◌, ◌*◌, length};
 ghost use Rattle.buffers.specs.Page.{page, put_of, puts_of};
 ghost use Rattle.buffers.specs.Shown.{shown};
 
 use std::fmt;
 
 // The buffer, and the place where the next byte goes.
+#[derive(Drop)]
 pub struct Page<'a> {
     bytes: &'a mut [u8],
     at: usize,
@@ -29,6 +30,13 @@ impl Page<'_> {
         ensures { result ≡ self.now.at }
     {
         self.at
+    }
+
+    // How many bytes the buffer has.
+    pub fn room(&self) -> usize
+        ensures { result ≡ length self.now.bytes.now }
+    {
+        self.bytes.len()
     }
 
     // One byte.

@@ -7,7 +7,7 @@ use Rattle.std.proofs.lemmas.List.{length-replicate, replicate-append-replicate}
 use Rattle.units.specs.declared.Clocks.{Clocks}
 use Rattle.units.specs.declared.Bytes.{Bytes}
 use Rattle.units.specs.declared.Wires.{Wires}
-use Rattle.units.specs.Units.{clocks, at_most, less, fewer_bytes, wires_of, per_byte, clocks_of, whole_of, clocks_within}
+use Rattle.units.specs.Units.{clocks, fewer_bytes, wires_of, per_byte, clocks_of, whole_of, clocks_within}
 use Rattle.units.specs.Laws.{lt_whole}
 use Rattle.wires.specs.Bits.{above, spelled}
 use Rattle.buffers.specs.Page.{page, puts_of}
@@ -21,30 +21,20 @@ none_above w below v h l =
     let e : v / 2 ^ (wires_of w * below) ≡ 0 = div-eq_of_lt (lt_of_lt_of_le h (pow_mono {i = 32} {j = wires_of w * below} l)) in
     rw (e, zero-mod)
 
--- ---- what is left to send: one of n clocks and then m, or nothing
-module _ {one : Clocks} {t : Bool} (n : Clocks) (o : one ≡ clocks 1) (a : t ≡ at_most one n) where
-  pub some_left : t ≡ true → one.0 ≤ n.0
-  some_left e = leb-true one.0 n.0 (sym a ∙ e)
-
-  pub one_less : {m : Clocks} → t ≡ true → m ≡ less n one → n.0 ≡ suc m.0
-  one_less e l = let h = rw o at (some_left e) in rw (l, o) (omega arith)
-
-  pub none_left : t ≡ false → n.0 ≡ 0
-  none_left e = let h = leb-false 1 n.0 (rw o at (sym a ∙ e)) in omega arith
-
-pub spread_next : (w : Wires) (n m v : ℕ) → n ≡ suc m → spelled w n v ≡ above w m v ∷ spelled w m v
+-- ---- what is left to send: one of n clocks and then the others, or nothing
+pub spread_next : (w : Wires) (n v : ℕ) → 0 < n → spelled w n v ≡ above w (n - 1) v ∷ spelled w (n - 1) v
 unfolding spelled
-spread_next w n m v e = rw e
+spread_next w n v h = let e : n ≡ suc (n - 1) = omega arith in ap (λ (k : ℕ). spelled w k v) e
 
-pub spread_none : (w : Wires) (n v : ℕ) → n ≡ 0 → spelled w n v ≡ []
+pub spread_none : (w : Wires) (n v : ℕ) → n ≤ 0 → spelled w n v ≡ []
 unfolding spelled
-spread_none w n v e = rw e
+spread_none w n v h = let e : n ≡ 0 = omega arith in rw e
 
-pub silent_next : (n m : Clocks) → n.0 ≡ suc m.0 → silent n ≡ 0 ∷ silent m
-silent_next n m e = rw e
+pub silent_next : (n i : ℕ) → i < n → replicate {A = ℕ} (n - i) 0 ≡ 0 ∷ replicate {A = ℕ} (n - (i + 1)) 0
+silent_next n i h = let e : n - i ≡ suc (n - (i + 1)) = omega arith in rw e
 
-pub silent_none : (n : Clocks) → n.0 ≡ 0 → silent n ≡ []
-silent_none n e = rw e
+pub silent_none : (n i : ℕ) → n ≤ i → replicate {A = ℕ} (n - i) 0 ≡ []
+silent_none n i h = let e : n - i ≡ 0 = omega arith in rw e
 
 module _ (w : Wires) (bs : List ℕ) (i : ℕ) where
   pub written_next : i < length bs → spread_all w (drop i bs) ≡ spelled w (per_byte w) (get_or bs i 0) ++ spread_all w (drop (i + 1) bs)

@@ -6,6 +6,7 @@ ghost use Rattle.std.specs.Prelude.{◌≡◌};
 ghost use Rattle.parts.specs.Parts.{part_of, part_named, part_number, family_of, least_of, most_of, offered, area_of, section_of, wrap_codes};
 ghost use Rattle.parts.specs.Lengths.{wrap_length, group_length, share_of};
 
+use std::fmt;
 use units::Bytes;
 
 // Part M, the serial MRAM. Its memories of 2^17, 2^19, 2^20 and 2^21 bytes are sold; the smaller ones are
@@ -91,6 +92,16 @@ pub enum Part {
     M,
     P,
     M32,
+}
+
+impl fmt::Display for Part {
+    fn fmt<W: fmt::Write>(&self, f: &mut fmt::Formatter<W>) -> fmt::Result {
+        f.write_str(match self {
+            Part::M => "part M",
+            Part::P => "part P",
+            Part::M32 => "part M32",
+        })
+    }
 }
 
 // A number that stands for no part.

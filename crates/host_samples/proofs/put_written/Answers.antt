@@ -1,11 +1,12 @@
--- `host_samples::put_written` meets its contract. The invariant: the bytes that are left, put from here, come to the whole.
+-- `host_samples::put_written` meets its contract. The invariant: the bytes that are left, put from here, come to the whole, in the same buffer.
 -- Assumes nothing.
-use Rattle.buffers.specs.Laws.{put_some, all_put}
+use Rattle.std.proofs.Common.{◌∙◌}
+use Rattle.buffers.specs.Laws.{put_on, all_put}
 use Rattle.host_samples.specs.Laws.{written_next, written_none}
 use Rattle.host_samples.proofs.put_written.Goals as goal
 
-pub loop-i-preserved : goal.loop-i-preserved
-loop-i-preserved c = put_some c.loop-i.invariant _ (written_next _ _ _ c.loop-i-test.true) c.put_byte-to.ensures c.put_byte-to.auto.samples
+pub loop-b-preserved : goal.loop-b-preserved
+loop-b-preserved c = (c.put_byte.ensures.same_buffer ∙ c.loop-b.invariant.0, put_on c.loop-b.invariant.1 _ (written_next _ _ _ c.loop-b-test.true) c.put_byte.ensures.put)
 
-pub returns : goal.returns
-returns c = all_put c.loop-i.invariant (written_none _ _ _ c.loop-i-test.false)
+pub returns-clause-put : goal.returns-clause-put
+returns-clause-put c = all_put c.loop-b.invariant.1 (written_none _ _ _ c.loop-b-test.false)
