@@ -39,16 +39,17 @@ chip_part b l = record { memory = take b.memory.0 l.memory; area = take b.area.0
 abbrev pub put_back : Socket → Lent → Lent → Lent
 put_back b w l = record { memory = w.memory ++ drop b.memory.0 l.memory; area = w.area ++ drop b.area.0 l.area }
 
--- the record found has been played on so many bytes
-abbrev pub gone_on : Found → Entry → Socket → Lent → World → Turned
-gone_on f e b l w =
+-- the record found has been played on a chip
+abbrev pub gone_on : Found → Entry → Chip → Lent → World → Turned
+gone_on f e c l w =
     record {
       turn = Ok (record {
         entry = e;
+        chip = c;
         outcome = outcome_in w;
-        session = record { at = f.next; chip = Some (record { socket = b; device = w.device }) };
+        session = record { at = f.next; chip = Some (record { socket = c.socket; device = w.device }) };
       });
-      lent = put_back b w.lent l;
+      lent = put_back c.socket w.lent l;
       output = w.output;
     }
 
@@ -58,7 +59,7 @@ turn_on None f e s tape l out = kept (Unready e) l out
 turn_on (Some c) f e s tape l out =
     cond (ltb (length l.memory) c.socket.memory.0) (kept (Unready e) l out)
     (cond (ltb (length l.area) c.socket.area.0) (kept (Unready e) l out)
-    (gone_on f e c.socket l (played_at tape s.at c.device (chip_part c.socket l) out)))
+    (gone_on f e c l (played_at tape s.at c.device (chip_part c.socket l) out)))
 
 abbrev pub turn_for : Result Entry Fault → Found → Session → List ℕ → Lent → List ℕ → Turned
 turn_for (Err fault) f s tape l out = kept (Bad fault) l out

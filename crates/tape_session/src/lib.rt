@@ -17,10 +17,12 @@ pub struct Session {
     pub chip: Option<Chip>,
 }
 
-// What a record came to: what it was, what it answered, and where the session is then.
+// What a record came to: what it was, the chip that it was played on, as it was before, what that answered, and where the session is
+// then.
 #[derive(Clone, Copy)]
 pub struct Turn {
     pub entry: Entry,
+    pub chip: Chip,
     pub outcome: Outcome,
     pub session: Session,
 }
@@ -79,6 +81,7 @@ pub fn advance(
     let device = outcome.device;
     Ok(Turn {
         entry,
+        chip,
         outcome,
         session: Session {
             at: f.next,
