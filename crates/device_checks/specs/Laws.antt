@@ -1,10 +1,9 @@
 -- Laws of the checks before a call.
 -- Assumes nothing.
-use Rattle.std.specs.Prelude.{◌≡◌, ℕ, ◌+◌, ◌-◌, ◌<◌, ◌≤◌, true, false, List, leb, get_or, drop}
-use Rattle.std.proofs.Common.{le_trans, add-one, arith, lit≤, drop_of_length-le}
-use Rattle.std.proofs.Math.ListN.{length}
-use Rattle.std.proofs.Math.Seq.{drop-cons}
-use borrow.Author.Tests.{lt-ltb, le-ltb, leb-true, leb-false, lt-leb, le-leb}
+use Rattle.std.specs.Prelude.{◌≡◌, ℕ, ◌+◌, ◌-◌, ◌<◌, ◌≤◌, refl, true, false, List, [], ◌∷◌, leb, ltb, length}
+use Rattle.std.specs.List.{list_all}
+use Rattle.std.proofs.Common.{le_trans, arith, lit≤}
+use borrow.Author.Tests.{leb-true, leb-false, lt-leb, le-leb}
 use Rattle.basis.specs.Truth.{both_true}
 use Rattle.parts.specs.declared.Part.{Part}
 use Rattle.parts.specs.declared.Part.TheVariants.{M, P, M32}
@@ -53,16 +52,8 @@ module _ (u : Underway) (xs out : List ℕ) where
       let g = leb-true (so_far u).0 65535 f in
       rw (le-leb ((so_far u).0 + length xs) 65535 (omega arith))
 
--- a scan for a sample above 15: what is left of the samples decides
-module _ (l : List ℕ) (i : ℕ) where
-  pub sampled_stop : i < length l → 16 ≤ get_or l i 0 → sampled (drop i l) ≡ false
-  unfolding sampled
-  sampled_stop h n = rw (drop-cons l i 0 h, le-ltb (get_or l i 0) 16 n)
-
-  pub sampled_on : i < length l → get_or l i 0 < 16 → sampled (drop (i + 1) l) ≡ sampled (drop i l)
-  unfolding sampled
-  sampled_on h n = rw (add-one, drop-cons l i 0 h, lt-ltb (get_or l i 0) 16 n)
-
-  pub sampled_end : length l ≤ i → sampled (drop i l) ≡ true
-  unfolding sampled
-  sampled_end h = rw (drop_of_length-le l h)
+-- every sample is a level where each one is
+pub sampled_all : (xs : List ℕ) → sampled xs ≡ list_all (λ x. ltb x 16) xs
+unfolding sampled
+sampled_all [] = refl
+sampled_all (x ∷ xs) = rw (sampled_all xs)

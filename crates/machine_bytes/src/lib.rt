@@ -18,29 +18,18 @@ use units::{Bytes, Clocks};
 fn is_into_area(k: Kind) -> bool
     ensures { result ≡ into_area k }
 {
-    match k {
-        Kind::Unknown => false,
-        Kind::Plain(_) => false,
-        Kind::Read(_) => false,
-        Kind::Write(to) => match to {
-            Target::Register(_) => false,
-            Target::Mode => false,
-            Target::Memory(_) => false,
-            Target::Area => true,
-        },
-    }
+    matches!(k, Kind::Write(Target::Area))
 }
 
 // Whether byte `i` of a write lies at a protected place.
+#[tactic(auto, unfolding(paper::specs::Storing::protected_at))]
 pub fn protected_at(a: Aim, i: Bytes) -> bool
     requires { (a.setting.n ≤ 24) × (i.0 ≤ 65535) }
     ensures { result ≡ protected_at a i }
 {
     let s = a.setting;
-    let k = a.kind;
-    if is_into_area(k) {
-        let part = s.part;
-        return places::area_protected(s, places::area_place(part, a.address, i));
+    if is_into_area(a.kind) {
+        return places::area_protected(s, places::area_place(s.part, a.address, i));
     }
     places::protected(s, places::write_place(s, a.address, i))
 }
@@ -50,12 +39,9 @@ pub fn shut_among(a: Aim, m: Bytes) -> Bytes
     requires { (a.setting.n ≤ 24) × (m.0 ≤ 65535) }
     ensures { result ≡ shut_among a m }
 {
-    let mut i = Bytes::none();
     let mut shut = Bytes::none();
-    while i < m {
-        let here = protected_at(a, i);
-        i = i.next();
-        if here {
+    for i in 0..m.in_bytes() {
+        if protected_at(a, Bytes::stated(i)) {
             shut = shut.next();
         }
     }
@@ -72,37 +58,30 @@ fn put(store: &mut [u8], place: usize, b: u8)
 }
 
 // Byte `i` of a write, stored.
+#[tactic(auto, unfolding(paper::specs::Storing::put_at))]
 pub fn put_at(a: Aim, i: Bytes, b: u8, memory: &mut [u8], area: &mut [u8])
     requires { (a.setting.n ≤ 24) × (i.0 ≤ 65535) }
     ensures { lends memory.new area.new ≡ put_at a i b (lends memory.old area.old) }
 {
     let s = a.setting;
-    let k = a.kind;
-    if is_into_area(k) {
-        let part = s.part;
-        put(area, places::area_place(part, a.address, i), b);
-        return;
+    if is_into_area(a.kind) {
+        put(area, places::area_place(s.part, a.address, i), b);
+    } else {
+        put(memory, places::write_place(s, a.address, i), b);
     }
-    put(memory, places::write_place(s, a.address, i), b);
 }
 
 // The byte at a place, and 0 where the store has it not.
 fn get(store: &[u8], place: usize) -> u8
     ensures { result ≡ get_or store.now place 0 }
 {
-    if place < store.len() {
-        return store[place];
-    }
-    0
+    store.get(place).copied().unwrap_or(0)
 }
 
 fn mapped_byte(d: Device, m: Option<Register>, i: Bytes) -> u8
     ensures { result ≡ mapped_byte d m i }
 {
-    match m {
-        Some(r) => d.shown_byte(r, i),
-        None => 0,
-    }
+    m.map_or(0, |r| d.shown_byte(r, i))
 }
 
 // Byte `i` of what a read finds at its source.
@@ -111,31 +90,30 @@ fn found_at(d: Device, from: Source, address: u32, memory: &[u8], area: &[u8], i
     ensures { result ≡ found_at d from address (lends memory.now area.now) i }
 {
     let s = d.setting();
-    let part = s.part;
     match from {
         Source::Register(r) => d.shown_byte(r, i),
-        Source::Map => mapped_byte(d, register_at(part, address), i),
+        Source::Map => mapped_byte(d, register_at(s.part, address), i),
         Source::Mode => d.shown_byte(Register::ModeRegister, i),
         Source::Identity => d.shown_byte(Register::LongIdentity, i),
         Source::Memory(_) => get(memory, places::read_place(s, address, i)),
-        Source::Area => get(area, places::area_place(part, address, i)),
+        Source::Area => get(area, places::area_place(s.part, address, i)),
     }
 }
 
 // Byte `i` of what a command reads.
+#[tactic(auto, unfolding(paper::specs::Driving::byte_read))]
 fn byte_read(d: Device, k: Kind, address: u32, memory: &[u8], area: &[u8], i: Bytes) -> u8
     requires { (d.make.n ≤ 24) × (i.0 ≤ 65535) }
     ensures { result ≡ byte_read d k address (lends memory.now area.now) i }
 {
     match k {
-        Kind::Unknown => 0,
-        Kind::Plain(_) => 0,
         Kind::Read(from) => found_at(d, from, address, memory, area, i),
-        Kind::Write(_) => 0,
+        Kind::Unknown | Kind::Plain(_) | Kind::Write(_) => 0,
     }
 }
 
 // The output byte of data clock `t` of a read.
+#[tactic(auto, unfolding(paper::specs::Driving::level_at))]
 fn level_at(d: Device, k: Kind, address: u32, memory: &[u8], area: &[u8], t: Clocks) -> u8
     requires { (d.make.n ≤ 24) × (t.0 ≤ 65535) }
     ensures { result ≡ level_at d k address (lends memory.now area.now) t }
@@ -159,10 +137,7 @@ pub fn driven_at(
     ensures { result ≡ driven_at b d k address (lends memory.now area.now) t }
 {
     match b {
-        Body::Nothing => 0,
-        Body::FixedRead(_) => level_at(d, k, address, memory, area, t),
-        Body::AnyRead => level_at(d, k, address, memory, area, t),
-        Body::FixedWrite(_) => 0,
-        Body::AnyWrite => 0,
+        Body::FixedRead(_) | Body::AnyRead => level_at(d, k, address, memory, area, t),
+        Body::Nothing | Body::FixedWrite(_) | Body::AnyWrite => 0,
     }
 }

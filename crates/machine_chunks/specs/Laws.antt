@@ -1,6 +1,6 @@
 -- Laws of taking up and putting down: the clocks by phase come to all clocks, and the machine stands where the facts say.
 -- Assumes nothing.
-use Rattle.std.specs.Prelude.{◌≡◌, refl, Bool, true, false, cond, List, ltb, length, get_or, take, drop}
+use Rattle.std.specs.Prelude.{◌≡◌, refl, Bool, true, false, cond, List, ltb, [], ◌∷◌, length, fold}
 use Rattle.std.proofs.Math.Path.{ap}
 use Rattle.std.proofs.Common.{◌∙◌, le_refl, add-one, drop_of_length-le, ltb-true, ltb-false}
 use Prim.Native.Nat.{ℕ, suc, ◌+◌, ◌-◌, ◌<◌, ◌≤◌}
@@ -67,19 +67,11 @@ split_total s u =
     let h = data_some (body_for s k a) (wires_for s k) t₃ in
     omega arith
 
--- ---- gathering goes on, a sample at a time
-module _ (w : Wires) (xs : List ℕ) (end i n : ℕ) where
-  pub gather_turn : i < length xs → i < end → gather_from w (shift_of w n (get_or xs i 0)) (take (end - (i + 1)) (drop (i + 1) xs)) ≡ gather_from w n (take (end - i) (drop i xs))
-  unfolding gather_from
-  gather_turn h l = let e : end - i ≡ suc (end - (i + 1)) = omega arith in rw (e, drop-cons xs i 0 h, add-one)
-
-  pub gather_done : end ≤ i → gather_from w n (take (end - i) (drop i xs)) ≡ n
-  unfolding gather_from
-  gather_done h = let e : end - i ≡ 0 = omega arith in rw e
-
-  pub gather_out : length xs ≤ i → gather_from w n (take (end - i) (drop i xs)) ≡ n
-  unfolding gather_from
-  gather_out h = rw (drop_of_length-le xs h, take-nil (end - i))
+-- ---- gathering is a fold
+pub gather_fold : (w : Wires) (n : ℕ) (xs : List ℕ) → fold (shift_of w) n xs ≡ gather_from w n xs
+unfolding gather_from
+gather_fold w n [] = refl
+gather_fold w n (x ∷ xs) = gather_fold w (shift_of w n x) xs
 
 -- ---- the machine goes on over a chunk
 module _

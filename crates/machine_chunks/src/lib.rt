@@ -2,8 +2,8 @@
 // goes on from what follows from them.
 #![tactic(auto)]
 
-ghost use Rattle.std.specs.Prelude.{◌≡◌, ◌+◌, ◌≤◌, length};
-ghost use Rattle.wires.specs.Bits.{gather_from};
+ghost use Rattle.std.specs.Prelude.{◌≡◌, ◌+◌, ◌≤◌, length, fold};
+ghost use Rattle.wires.specs.Bits.{shift_of};
 ghost use Rattle.counts.specs.Counts.{total};
 ghost use Rattle.paper.specs.Reading.{first};
 ghost use Rattle.contract_words.specs.Words.{lends};
@@ -16,31 +16,29 @@ use record::{Device, Setting, Underway};
 use units::{Clocks, Wires};
 
 // The phase that so many clocks have come to.
+#[tactic(auto, using(units::specs::Compared::gt_is), unfolding(crate::specs::Chunks::phase_by))]
 fn phase_by(s: Setting, k: Kind, address: u32, c: Counts) -> Phase
     requires { s.n ≤ 24 }
     ensures { result ≡ phase_by s k address c }
 {
-    let command = c.command;
-    let addressing = c.address;
-    let wait = c.wait;
-    let data = c.body;
-    if plan_in_force::command_clocks(s) > command {
+    if plan_in_force::command_clocks(s) > c.command {
         return Phase::Command;
     }
-    if plan_in_force::address_clocks(s, k) > addressing {
+    if plan_in_force::address_clocks(s, k) > c.address {
         return Phase::Address;
     }
-    if plan_in_force::wait_clocks(s, k, address) > wait {
+    if plan_in_force::wait_clocks(s, k, address) > c.wait {
         return Phase::Wait;
     }
     let body = plan_in_force::body_for(s, k, address);
-    if machine_phases::is_full(body, plan_in_force::wires_for(s, k), data) {
+    if machine_phases::is_full(body, plan_in_force::wires_for(s, k), c.body) {
         return Phase::Rest;
     }
     Phase::Data
 }
 
 // Where the machine stands in the open transaction.
+#[tactic(auto, unfolding(crate::specs::Chunks::resume_of))]
 pub fn resume(s: Setting, u: Underway) -> Progress
     requires { s.n ≤ 24 }
     ensures { result ≡ resume_of s u }
@@ -59,33 +57,23 @@ pub fn resume(s: Setting, u: Underway) -> Progress
 
 // The number that the first samples, up to so many, spell after one that is gathered already.
 fn gathered(w: Wires, number: u32, samples: &[u8], most: Clocks) -> u32
-    ensures { result ≡ gather_from w number (first most samples.now) }
+    ensures { result ≡ fold (shift_of w) number (first most samples.now) }
 {
-    let end = most.in_clocks();
-    let mut n = number;
-    let mut i = 0;
-    while i < samples.len() && i < end {
-        let x = samples[i];
-        n = wires::shift_in(n, x, w);
-        i += 1;
-    }
-    n
+    samples
+        .iter()
+        .take(most.in_clocks())
+        .fold(number, |n, x| wires::shift_in(n, *x, w))
 }
 
 // The opcode after a chunk: the command may come whole in it.
+#[tactic(auto, using(units::specs::Compared::lt_is, units::specs::Compared::le_is), unfolding(crate::specs::Chunks::opcode_after))]
 fn opcode_after(s: Setting, u: Underway, samples: &[u8]) -> u8
     ensures { result ≡ opcode_after s u samples.now }
 {
-    let w = s.wires;
     let command = plan_in_force::command_clocks(s);
-    let before = u.clocks;
-    if command <= before {
-        return u.opcode;
-    }
-    let missing = command.past(before);
-    if missing <= Clocks::of_samples(samples) {
-        let n = gathered(w, u.number, samples, missing);
-        return (n % 256) as u8;
+    let missing = command.past(u.clocks);
+    if u.clocks < command && missing <= Clocks::of_samples(samples) {
+        return (gathered(s.wires, u.number, samples, missing) % 256) as u8;
     }
     u.opcode
 }
@@ -95,12 +83,10 @@ fn pause(opcode: u8, p: Progress) -> Underway
     requires { (total p.tally.counts).0 ≤ 65535 }
     ensures { result ≡ paused_of opcode p }
 {
-    let tally = p.tally;
-    let counts = tally.counts;
-    let value = tally.value;
+    let value = p.tally.value;
     Underway {
         selected: true,
-        clocks: counts.total(),
+        clocks: p.tally.counts.total(),
         opcode,
         address: p.address,
         number: p.number,

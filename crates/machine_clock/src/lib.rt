@@ -28,9 +28,8 @@ fn with_byte(mut value: [u8; 8], i: Bytes, b: u8) -> [u8; 8]
     ensures { result ≡ set value i.0 b }
 {
     let at = i.in_bytes();
-    if at < 8 {
+    if at < value.len() {
         value[at] = b;
-        return value;
     }
     value
 }
@@ -40,13 +39,9 @@ fn store_byte(hold: bool, a: Aim, i: Bytes, b: u8, memory: &mut [u8], area: &mut
     requires { (a.setting.n ≤ 24) × (i.0 ≤ 65535) }
     ensures { lends memory.new area.new ≡ cond hold (lends memory.old area.old) (stored a i b (lends memory.old area.old)) }
 {
-    if hold {
-        return;
+    if !hold && !protected_at(a, i) {
+        put_at(a, i, b, memory, area);
     }
-    if protected_at(a, i) {
-        return;
-    }
-    put_at(a, i, b, memory, area);
 }
 
 // A whole data byte, by what the data of the command is.
@@ -62,18 +57,13 @@ fn take_byte(
     requires { (a.setting.n ≤ 24) × (i.0 ≤ 65535) }
     ensures { taken_as result memory.new area.new ≡ byte_in hold a i b (taken_as value memory.old area.old) }
 {
-    let s = a.setting;
-    let k = a.kind;
-    let body = plan_in_force::body_for(s, k, a.address);
-    match body {
-        Body::Nothing => value,
-        Body::FixedRead(_) => value,
-        Body::AnyRead => value,
+    match plan_in_force::body_for(a.setting, a.kind, a.address) {
         Body::FixedWrite(_) => with_byte(value, i, b),
         Body::AnyWrite => {
             store_byte(hold, a, i, b, memory, area);
             value
         }
+        Body::Nothing | Body::FixedRead(_) | Body::AnyRead => value,
     }
 }
 
@@ -82,12 +72,11 @@ fn is_last(t: Clocks, w: Wires) -> bool
     requires { t.0 ≤ 65535 }
     ensures { result ≡ last_at w t }
 {
-    let after = t.next();
-    let past = units::unfinished(after, w);
-    past <= Clocks::none()
+    units::unfinished(t.next(), w) == Clocks::none()
 }
 
 // Data clock `t` of a write: the bits are gathered, and with a byte's last clock the byte is taken.
+#[tactic(auto, unfolding(machine_phases::specs::Machine::held))]
 fn hold_clock(
     hold: bool,
     a: Aim,
@@ -100,52 +89,45 @@ fn hold_clock(
     requires { (a.setting.n ≤ 24) × (t.0 ≤ 65535) }
     ensures { held_as result.number result.value memory.new area.new ≡ held (wires_for a.setting a.kind) (byte_in hold a) t (held_as h.number h.value memory.old area.old) x }
 {
-    let s = a.setting;
-    let k = a.kind;
-    let w = plan_in_force::wires_for(s, k);
-    let value = h.value;
+    let w = plan_in_force::wires_for(a.setting, a.kind);
     let number = wires::shift_in(h.number, x, w);
     if is_last(t, w) {
         let i = units::clocks_to_bytes(t, w);
-        let next = take_byte(hold, a, i, (number % 256) as u8, value, memory, area);
         return Holding {
             number: 0,
-            value: next,
+            value: take_byte(hold, a, i, (number % 256) as u8, h.value, memory, area),
         };
     }
-    Holding { number, value }
+    Holding { number, ..h }
 }
 
 // What a data clock leaves of the data: a write gathers its bytes, a read gathers nothing.
+#[tactic(auto, unfolding(machine_phases::specs::Machine::data_held))]
 fn hold_data(h: Terms, p: Progress, x: u8, memory: &mut [u8], area: &mut [u8]) -> Holding
     requires { (h.setting.n ≤ 24) × ((total p.tally.counts).0 < 65535) }
     ensures { held_as result.number result.value memory.new area.new ≡ data_held h (run_as p memory.old area.old) x }
 {
     let s = h.setting;
-    let kind = p.kind;
-    let tally = p.tally;
-    let counts = tally.counts;
-    let value = tally.value;
+    let value = p.tally.value;
     let start = Holding {
         number: p.number,
         value,
     };
-    let body = plan_in_force::body_for(s, kind, p.address);
+    let body = plan_in_force::body_for(s, p.kind, p.address);
     if !is_write(body) {
         return start;
     }
-    let part = s.part;
-    let hold = latch_missing(part.family(), s.registers.cr4, h.latch, kind);
+    let hold = latch_missing(s.part.family(), s.registers.cr4, h.latch, p.kind);
     let a = Aim {
         setting: s,
-        kind,
+        kind: p.kind,
         address: p.address,
     };
-    let t = counts.body;
-    hold_clock(hold, a, t, start, x, memory, area)
+    hold_clock(hold, a, p.tally.counts.body, start, x, memory, area)
 }
 
 // A clock of the data.
+#[tactic(auto, unfolding(machine_phases::specs::Machine::data_step))]
 fn data_step(h: Terms, p: Progress, x: u8, memory: &mut [u8], area: &mut [u8]) -> Progress
     requires { (h.setting.n ≤ 24) × ((total p.tally.counts).0 < 65535) }
     ensures { run_as result memory.new area.new ≡ data_step h (run_as p memory.old area.old) x }
@@ -153,27 +135,24 @@ fn data_step(h: Terms, p: Progress, x: u8, memory: &mut [u8], area: &mut [u8]) -
     let s = h.setting;
     let kind = p.kind;
     let g = hold_data(h, p, x, memory, area);
+    let counts = p.tally.counts.tick(Phase::Data);
     let value = g.value;
-    let tally = p.tally;
-    let ticked = tally.counts;
-    let counts = ticked.body_tick();
-    let now = counts.body;
     let next = Tally { counts, value };
     let body = plan_in_force::body_for(s, kind, p.address);
-    if machine_phases::is_full(body, plan_in_force::wires_for(s, kind), now) {
+    if machine_phases::is_full(body, plan_in_force::wires_for(s, kind), counts.body) {
         return Progress::entered(Phase::Rest, kind, p.address, next);
     }
     p.onward(g.number, next)
 }
 
 // One clock, whatever its phase.
+#[tactic(auto, unfolding(machine_phases::specs::Machine::step_of))]
 pub fn step(h: Terms, p: Progress, x: u8, memory: &mut [u8], area: &mut [u8]) -> Progress
     requires { (h.setting.n ≤ 24) × ((total p.tally.counts).0 < 65535) }
     ensures { run_as result memory.new area.new ≡ step_of h (run_as p memory.old area.old) x }
 {
     let s = h.setting;
-    let phase = p.phase;
-    match phase {
+    match p.phase {
         Phase::Command => machine_phases::command_step(s, p, x),
         Phase::Address => machine_phases::address_step(s, p, x),
         Phase::Wait => machine_phases::wait_step(s, p),
@@ -183,23 +162,22 @@ pub fn step(h: Terms, p: Progress, x: u8, memory: &mut [u8], area: &mut [u8]) ->
 }
 
 // What the device drives in this clock.
+#[tactic(auto, unfolding(machine_phases::specs::Machine::drive_of))]
 pub fn drive(d: Device, p: Progress, memory: &[u8], area: &[u8]) -> u8
     requires { (d.make.n ≤ 24) × ((total p.tally.counts).0 < 65535) }
     ensures { result ≡ drive_of d (run_as p memory.now area.now) }
 {
-    let phase = p.phase;
-    let kind = p.kind;
-    let tally = p.tally;
-    let counts = tally.counts;
-    let t = counts.body;
-    match phase {
-        Phase::Command => 0,
-        Phase::Address => 0,
-        Phase::Wait => 0,
-        Phase::Data => {
-            let body = plan_in_force::body_for(d.setting(), kind, p.address);
-            driven_at(body, d, kind, p.address, memory, area, t)
-        }
-        Phase::Rest => 0,
+    if p.phase != Phase::Data {
+        return 0;
     }
+    let body = plan_in_force::body_for(d.setting(), p.kind, p.address);
+    driven_at(
+        body,
+        d,
+        p.kind,
+        p.address,
+        memory,
+        area,
+        p.tally.counts.body,
+    )
 }

@@ -4,7 +4,8 @@
 #![tactic(auto)]
 
 ghost use Rattle.std.specs.Prelude.{◌≡◌, ◌<◌, ◌≤◌};
-ghost use Rattle.counts.specs.Counts.{total};
+ghost use Rattle.counts.specs.Counts.{total, tick};
+ghost use Rattle.progress.specs.Progress.{counting};
 ghost use Rattle.machine_phases.specs.Machine.{terms_of, full_at, to_data, to_wait, to_address, command_step, address_step, wait_step, rest_step};
 
 use commands::plans::Body;
@@ -36,14 +37,13 @@ pub fn is_full(b: Body, w: Wires, t: Clocks) -> bool
 {
     match b {
         Body::Nothing => true,
-        Body::FixedRead(m) => m <= units::clocks_to_bytes(t, w),
-        Body::AnyRead => false,
-        Body::FixedWrite(m) => m <= units::clocks_to_bytes(t, w),
-        Body::AnyWrite => false,
+        Body::FixedRead(m) | Body::FixedWrite(m) => m <= units::clocks_to_bytes(t, w),
+        Body::AnyRead | Body::AnyWrite => false,
     }
 }
 
 // Past the wait: the data, or the rest where there is none.
+#[tactic(auto, unfolding(crate::specs::Machine::to_data))]
 fn to_data(s: Setting, k: Kind, address: u32, tally: Tally) -> Progress
     requires { s.n ≤ 24 }
     ensures { result ≡ to_data s k address tally }
@@ -59,82 +59,76 @@ fn to_data(s: Setting, k: Kind, address: u32, tally: Tally) -> Progress
 }
 
 // Past the address: the wait, if there is one.
+#[tactic(auto, using(units::specs::Compared::le_is), unfolding(crate::specs::Machine::to_wait))]
 fn to_wait(s: Setting, k: Kind, address: u32, tally: Tally) -> Progress
     requires { s.n ≤ 24 }
     ensures { result ≡ to_wait s k address tally }
 {
-    let wait = plan_in_force::wait_clocks(s, k, address);
-    if wait <= Clocks::none() {
+    if plan_in_force::wait_clocks(s, k, address) <= Clocks::none() {
         return to_data(s, k, address, tally);
     }
     Progress::entered(Phase::Wait, k, address, tally)
 }
 
 // Past the command: the address, if there is one.
+#[tactic(auto, using(units::specs::Compared::le_is), unfolding(crate::specs::Machine::to_address))]
 fn to_address(s: Setting, k: Kind, tally: Tally) -> Progress
     requires { s.n ≤ 24 }
     ensures { result ≡ to_address s k tally }
 {
-    let address = plan_in_force::address_clocks(s, k);
-    if address <= Clocks::none() {
+    if plan_in_force::address_clocks(s, k) <= Clocks::none() {
         return to_wait(s, k, 0, tally);
     }
     Progress::entered(Phase::Address, k, 0, tally)
 }
 
+// The tally with one clock more of a phase.
+fn ticked(p: Progress, phase: Phase) -> Tally
+    requires { (total p.tally.counts).0 < 65535 }
+    ensures { result ≡ counting (tick phase p.tally.counts) p.tally }
+{
+    p.tally.counting(p.tally.counts.tick(phase))
+}
+
 // A clock of the command.
+#[tactic(auto, using(units::specs::Compared::le_is), unfolding(crate::specs::Machine::command_step))]
 pub fn command_step(s: Setting, p: Progress, x: u8) -> Progress
     requires { (s.n ≤ 24) × ((total p.tally.counts).0 < 65535) }
     ensures { result ≡ command_step s p x }
 {
-    let w = s.wires;
-    let part = s.part;
-    let number = wires::shift_in(p.number, x, w);
-    let before = p.tally;
-    let ticked = before.counts;
-    let counts = ticked.command_tick();
-    let tally = before.counting(counts);
-    let limit = plan_in_force::command_clocks(s);
-    let so_far = counts.command;
-    if limit <= so_far {
-        let k = kind_of(part.family(), w, (number % 256) as u8);
+    let number = wires::shift_in(p.number, x, s.wires);
+    let tally = ticked(p, Phase::Command);
+    if plan_in_force::command_clocks(s) <= tally.counts.command {
+        let k = kind_of(s.part.family(), s.wires, (number % 256) as u8);
         return to_address(s, k, tally);
     }
     p.onward(number, tally)
 }
 
 // A clock of the address.
+#[tactic(auto, using(units::specs::Compared::le_is), unfolding(crate::specs::Machine::address_step))]
 pub fn address_step(s: Setting, p: Progress, x: u8) -> Progress
     requires { (s.n ≤ 24) × ((total p.tally.counts).0 < 65535) }
     ensures { result ≡ address_step s p x }
 {
     let kind = p.kind;
     let number = wires::shift_in(p.number, x, plan_in_force::wires_for(s, kind));
-    let before = p.tally;
-    let ticked = before.counts;
-    let counts = ticked.address_tick();
-    let tally = before.counting(counts);
-    let limit = plan_in_force::address_clocks(s, kind);
-    let so_far = counts.address;
-    if limit <= so_far {
+    let tally = ticked(p, Phase::Address);
+    if plan_in_force::address_clocks(s, kind) <= tally.counts.address {
         return to_wait(s, kind, number, tally);
     }
     p.onward(number, tally)
 }
 
 // A clock of the wait.
+#[tactic(auto, using(units::specs::Compared::le_is), unfolding(crate::specs::Machine::wait_step))]
 pub fn wait_step(s: Setting, p: Progress) -> Progress
     requires { (s.n ≤ 24) × ((total p.tally.counts).0 < 65535) }
     ensures { result ≡ wait_step s p }
 {
     let kind = p.kind;
-    let before = p.tally;
-    let ticked = before.counts;
-    let counts = ticked.wait_tick();
-    let tally = before.counting(counts);
-    let limit = plan_in_force::wait_clocks(s, kind, p.address);
-    let so_far = counts.wait;
-    if limit <= so_far {
+    let tally = ticked(p, Phase::Wait);
+    if plan_in_force::wait_clocks(s, kind, p.address) <= tally.counts.wait {
         return to_data(s, kind, p.address, tally);
     }
     p.onward(0, tally)
@@ -145,8 +139,5 @@ pub fn rest_step(p: Progress) -> Progress
     requires { (total p.tally.counts).0 < 65535 }
     ensures { result ≡ rest_step p }
 {
-    let before = p.tally;
-    let ticked = before.counts;
-    let counts = ticked.rest_tick();
-    p.onward(0, before.counting(counts))
+    p.onward(0, ticked(p, Phase::Rest))
 }

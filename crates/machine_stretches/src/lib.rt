@@ -14,6 +14,7 @@ use record::{Device, Outcome};
 use units::Clocks;
 
 // Where so many clocks more come to, or the end of all that there are.
+#[tactic(auto, using(units::specs::Compared::lt_is), unfolding(crate::specs::Stretches::reach_of))]
 fn reach(from: Clocks, c: Clocks, all: Clocks) -> Clocks
     requires { (from.0 ≤ all.0) × (all.0 ≤ 65535) }
     ensures { result ≡ clocks (reach_of from c all.0) }
@@ -37,9 +38,7 @@ fn advance(
     requires { Advancing d p samples.now output.old }
     ensures { Advanced d (run_as p memory.old area.old) samples.now output.old c (run_as result memory.new area.new) output.new }
 {
-    let tally = p.tally;
-    let counts = tally.counts;
-    let from = counts.total();
+    let from = p.tally.counts.total();
     let till = reach(from, c, Clocks::of_samples(samples));
     let a = from.in_clocks();
     let e = till.in_clocks();
@@ -61,10 +60,9 @@ fn before_data(
     let p = Progress::begin();
     let command = plan_in_force::command_clocks(s);
     let q = advance(d, p, memory, area, samples, output, command);
-    let k = q.kind;
-    let address = plan_in_force::address_clocks(s, k);
+    let address = plan_in_force::address_clocks(s, q.kind);
     let r = advance(d, q, memory, area, samples, output, address);
-    let wait = plan_in_force::wait_clocks(s, k, r.address);
+    let wait = plan_in_force::wait_clocks(s, q.kind, r.address);
     advance(d, r, memory, area, samples, output, wait)
 }
 
@@ -81,9 +79,8 @@ fn over_data(
     ensures { Advanced d (run_as p memory.old area.old) samples.now output.old (data_clocks d samples.now) (run_as result memory.new area.new) output.new }
 {
     let s = d.setting();
-    let k = p.kind;
-    let body = plan_in_force::body_for(s, k, p.address);
-    let w = plan_in_force::wires_for(s, k);
+    let body = plan_in_force::body_for(s, p.kind, p.address);
+    let w = plan_in_force::wires_for(s, p.kind);
     let data = plan_in_force::data_clocks(body, w, Clocks::of_samples(samples));
     advance(d, p, memory, area, samples, output, data)
 }

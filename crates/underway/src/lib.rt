@@ -19,33 +19,32 @@ use units::{Bytes, Clocks};
 use wires::fits;
 
 // The kind of the command, once it is whole.
+#[tactic(auto, using(units::specs::Compared::le_is), unfolding(paper::specs::Underway::kind_at))]
 pub fn kind_at(s: Setting, u: Underway) -> Kind
     ensures { result ≡ kind_at s u }
 {
     if command_clocks(s) <= u.clocks {
-        let part = s.part;
-        let w = s.wires;
-        return kind_of(part.family(), w, u.opcode);
+        return kind_of(s.part.family(), s.wires, u.opcode);
     }
     Kind::Unknown
 }
 
 // The clocks so far, by phase.
+#[tactic(auto, unfolding(paper::specs::Underway::counts_at))]
 pub fn counts_at(s: Setting, u: Underway) -> Counts
     requires { s.n ≤ 24 }
     ensures { result ≡ counts_at s u }
 {
     let k = kind_at(s, u);
-    let all = u.clocks;
     let command = command_clocks(s);
     let address = address_clocks(s, k);
     let wait = wait_clocks(s, k, u.address);
-    let past_command = all.past(command);
+    let past_command = u.clocks.past(command);
     let past_address = past_command.past(address);
     let past_wait = past_address.past(wait);
     let data = data_clocks(body_for(s, k, u.address), wires_for(s, k), past_wait);
     Counts {
-        command: all.up_to(command),
+        command: u.clocks.up_to(command),
         address: past_command.up_to(address),
         wait: past_address.up_to(wait),
         body: data,
@@ -54,6 +53,7 @@ pub fn counts_at(s: Setting, u: Underway) -> Counts
 }
 
 // The clocks that spell a number: none while some of them are missing.
+#[tactic(auto, using(units::specs::Compared::le_is))]
 fn spelling_of(all: Clocks, c: Clocks) -> Clocks
     ensures { result ≡ spelling all c }
 {
@@ -77,93 +77,64 @@ fn begun_in(b: Body, c: Clocks) -> Clocks
 fn kept_in(b: Body, m: Bytes) -> Bytes
     ensures { result ≡ kept_in b m }
 {
-    match b {
-        Body::Nothing => Bytes::none(),
-        Body::FixedRead(_) => Bytes::none(),
-        Body::AnyRead => Bytes::none(),
-        Body::FixedWrite(_) => m,
-        Body::AnyWrite => Bytes::none(),
+    if matches!(b, Body::FixedWrite(_)) {
+        return m;
     }
+    Bytes::none()
 }
 
 // Whether the number fits the clocks that have come of what is not whole yet.
+#[tactic(auto, using(units::specs::Compared::gt_is), unfolding(paper::specs::Underway::number_reached))]
 fn is_number_reached(s: Setting, u: Underway) -> bool
     requires { s.n ≤ 24 }
     ensures { result ≡ number_reached s u }
 {
     let k = kind_at(s, u);
     let c = counts_at(s, u);
-    let command = c.command;
-    let address = c.address;
-    if command_clocks(s) > command {
-        let before = s.wires;
-        return fits(u.number, command, before);
+    if command_clocks(s) > c.command {
+        return fits(u.number, c.command, s.wires);
     }
     let w = wires_for(s, k);
-    if address_clocks(s, k) > address {
-        return fits(u.number, address, w);
+    if address_clocks(s, k) > c.address {
+        return fits(u.number, c.address, w);
     }
-    let data = c.body;
-    let begun = begun_in(body_for(s, k, u.address), units::unfinished(data, w));
+    let begun = begun_in(body_for(s, k, u.address), units::unfinished(c.body, w));
     fits(u.number, begun, w)
 }
 
 // Whether no fact has bits that have not come.
+#[tactic(auto, using(units::specs::Compared::le_is), unfolding(paper::specs::Underway::reached))]
 fn is_reached(s: Setting, u: Underway) -> bool
     requires { s.n ≤ 24 }
     ensures { result ≡ reached s u }
 {
     let k = kind_at(s, u);
     let c = counts_at(s, u);
-    let all = u.clocks;
-    let command = c.command;
-    let address = c.address;
-    let data = c.body;
-    let before = s.wires;
     let w = wires_for(s, k);
-    if all > Clocks::longest() {
-        return false;
-    }
-    if !fits(
-        u.opcode as u32,
-        spelling_of(command_clocks(s), command),
-        before,
-    ) {
-        return false;
-    }
-    if !fits(u.address, spelling_of(address_clocks(s, k), address), w) {
-        return false;
-    }
-    if !is_number_reached(s, u) {
-        return false;
-    }
-    let kept = kept_in(body_for(s, k, u.address), units::clocks_to_bytes(data, w));
-    let value = u.value;
-    all_zero(value, kept.in_bytes())
+    let opcode = spelling_of(command_clocks(s), c.command);
+    let address = spelling_of(address_clocks(s, k), c.address);
+    let kept = kept_in(body_for(s, k, u.address), units::clocks_to_bytes(c.body, w));
+    u.clocks <= Clocks::longest()
+        && fits(u32::from(u.opcode), opcode, s.wires)
+        && fits(u.address, address, w)
+        && is_number_reached(s, u)
+        && all_zero(u.value, kept.in_bytes())
 }
 
 // Whether there are no facts.
+#[tactic(auto, using(units::specs::Compared::le_is), unfolding(paper::specs::Underway::factless))]
 fn is_factless(u: Underway) -> bool
     ensures { result ≡ factless u }
 {
-    let all = u.clocks;
-    let value = u.value;
-    if all > Clocks::none() {
-        return false;
-    }
-    if u.opcode != 0 {
-        return false;
-    }
-    if u.address != 0 {
-        return false;
-    }
-    if u.number != 0 {
-        return false;
-    }
-    all_zero(value, 0)
+    u.clocks <= Clocks::none()
+        && u.opcode == 0
+        && u.address == 0
+        && u.number == 0
+        && all_zero(u.value, 0)
 }
 
 // Whether the open transaction is one that some clocks reach or, with none open, there are no facts.
+#[tactic(auto, unfolding(paper::specs::Underway::underway_valid))]
 fn is_underway_valid(s: Setting, u: Underway) -> bool
     requires { s.n ≤ 24 }
     ensures { result ≡ underway_valid s u }
@@ -175,13 +146,10 @@ fn is_underway_valid(s: Setting, u: Underway) -> bool
 }
 
 // The state check. Whoever asks has checked the size.
+#[tactic(auto, unfolding(paper::specs::Underway::valid_of))]
 pub fn valid(d: Device) -> bool
     requires { d.make.n ≤ 24 }
     ensures { result ≡ valid_of d }
 {
-    let u = d.underway;
-    if !state_check::in_range(d) {
-        return false;
-    }
-    is_underway_valid(d.setting(), u)
+    state_check::in_range(d) && is_underway_valid(d.setting(), d.underway)
 }

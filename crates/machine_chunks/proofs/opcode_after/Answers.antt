@@ -1,17 +1,15 @@
--- `machine_chunks::opcode_after` meets its contract: the command is whole, comes whole, or is not whole yet.
+-- `machine_chunks::opcode_after` meets its contract: where the command comes whole in this chunk, the fold of its samples is what they spell.
 -- Assumes nothing.
-use mathlib.Core.Path.{sym, ◌∙◌}
+use Rattle.std.proofs.Common.{sym, ◌∙◌, ltb-true}
+use Rattle.std.proofs.lemmas.Bool.{lt-leb}
+use Rattle.units.specs.Compared.{lt_is, le_is}
+use Rattle.machine_chunks.specs.Laws.{gather_fold}
 use Rattle.machine_chunks.specs.Chunks.{opcode_after}
 use Rattle.machine_chunks.proofs.opcode_after.Goals as goal
 
-pub returns-then-at_most : goal.returns-then-at_most
+pub returns-then-le : goal.returns-then-le
 unfolding opcode_after
-returns-then-at_most c = rw (sym (rw c.command_clocks-command.ensures at c.at_most.ensures) ∙ c.if-at_most.true)
-
-pub returns-then-at_most-2 : goal.returns-then-at_most-2
-unfolding opcode_after
-returns-then-at_most-2 c = rw (sym (rw c.command_clocks-command.ensures at c.at_most.ensures) ∙ c.if-at_most.false, sym (rw (c.past-missing.ensures, c.of_samples.ensures, c.command_clocks-command.ensures) at c.at_most-2.ensures) ∙ c.if-at_most-2.true, c.gathered-n.ensures, c.past-missing.ensures, c.command_clocks-command.ensures)
-
-pub returns : goal.returns
-unfolding opcode_after
-returns c = rw (sym (rw c.command_clocks-command.ensures at c.at_most.ensures) ∙ c.if-at_most.false, sym (rw (c.past-missing.ensures, c.of_samples.ensures, c.command_clocks-command.ensures) at c.at_most-2.ensures) ∙ c.if-at_most-2.false)
+returns-then-le c =
+    let short = ltb-true _ _ (sym (rw (c.command_clocks-command.ensures, lt_is) at c.lt.ensures) ∙ c.if-lt.true) in
+    let whole = sym (rw (c.past-missing.ensures, c.of_samples.ensures, c.command_clocks-command.ensures, le_is) at c.le.ensures) ∙ c.if-le.true in
+    rw (lt-leb _ _ short, whole, c.gathered.ensures, c.past-missing.ensures, c.command_clocks-command.ensures, gather_fold)
