@@ -2,113 +2,81 @@
 #![tactic(auto)]
 
 ghost use Rattle.std.specs.Prelude.{◌≡◌};
-ghost use Rattle.buffers.specs.Page.{page, puts_of};
-ghost use Rattle.digits.specs.Digits.{digit_of, none, number_of, pair_of, pairs_of, is_paired};
+ghost use Rattle.buffers.specs.Page.{puts_of};
+ghost use Rattle.buffers.specs.Shown.{shown};
+ghost use Rattle.digits.specs.Digits.{digit_of, behind, number_of, are_digits, pair_of, pairs_of, is_paired};
 
-use buffers::put;
+use buffers::Page;
 
-// The number that a word is, or that it is none.
-#[derive(Clone, Copy)]
-pub struct Number {
-    pub good: bool,
-    pub value: u32,
-}
-
-fn no_number() -> Number
-    ensures { result ≡ none }
-{
-    Number {
-        good: false,
-        value: 0,
-    }
-}
-
-// The value of a digit, and 255 for any other byte.
-fn digit(b: u8) -> u8
+// The value of a digit.
+#[tactic(auto, unfolding(crate::specs::Digits::digit_of))]
+fn digit(b: u8) -> Option<u8>
     ensures { result ≡ digit_of b }
 {
-    if b < b'0' {
-        return 255;
+    match b {
+        b'0'..=b'9' => Some(b - b'0'),
+        b'A'..=b'F' => Some(b - b'A' + 10),
+        b'a'..=b'f' => Some(b - b'a' + 10),
+        _ => None,
     }
-    if b <= b'9' {
-        return b - b'0';
+}
+
+// A digit of a base behind those that came to a sum, where that is no more than `most`.
+#[tactic(auto, unfolding(crate::specs::Digits::behind))]
+fn behind(sum: u32, b: u8, base: u8, most: u32) -> Option<u32>
+    ensures { result ≡ behind base most sum b }
+{
+    let d = digit(b)?;
+    if base <= d {
+        return None;
     }
-    if b < b'A' {
-        return 255;
-    }
-    if b <= b'F' {
-        return b - 55;
-    }
-    if b < b'a' {
-        return 255;
-    }
-    if b <= b'f' {
-        return b - 87;
-    }
-    255
+    let next = u64::from(sum) * u64::from(base) + u64::from(d);
+    u32::try_from(next).ok().filter(|n| *n <= most)
 }
 
 // The number that a word of digits is in a base, no more than `most`.
-pub fn number_in(word: &[u8], base: u8, most: u32) -> Number
+#[tactic(auto, unfolding(crate::specs::Digits::number_of, crate::specs::Digits::number_from))]
+pub fn number_in(word: &[u8], base: u8, most: u32) -> Option<u32>
     ensures { result ≡ number_of base most word.now }
 {
-    if word.len() == 0 {
-        return no_number();
+    if word.is_empty() {
+        return None;
     }
-    let mut sum: u64 = 0;
-    let mut i = 0;
-    while i < word.len() {
-        let d = digit(word[i]);
-        i += 1;
-        if base <= d {
-            return no_number();
-        }
-        sum = sum * (base as u64) + d as u64;
-        if (most as u64) < sum {
-            return no_number();
-        }
+    let mut sum = 0;
+    for b in word {
+        sum = behind(sum, *b, base, most)?;
     }
-    Number {
-        good: true,
-        value: sum as u32,
-    }
+    Some(sum)
+}
+
+fn are_digits(word: &[u8]) -> bool
+    ensures { result ≡ are_digits word.now }
+{
+    word.iter().all(|b| digit(*b).is_some())
 }
 
 // Whether a word is pairs of hexadecimal digits.
+#[tactic(auto, unfolding(crate::specs::Digits::is_paired))]
 pub fn is_paired(word: &[u8]) -> bool
     ensures { result ≡ is_paired word.now }
 {
-    if word.len() % 2 != 0 {
-        return false;
-    }
-    let mut i = 0;
-    while i < word.len() {
-        let d = digit(word[i]);
-        i += 1;
-        if 15 < d {
-            return false;
-        }
-    }
-    true
+    word.len() % 2 == 0 && are_digits(word)
 }
 
 // The byte of two digits.
+#[tactic(auto, using(crate::specs::Laws::digit_small))]
 fn pair(high: u8, low: u8) -> u8
     ensures { result ≡ pair_of high low }
 {
-    16 * (digit(high) % 16) + digit(low) % 16
+    16 * digit(high).unwrap_or(15) + digit(low).unwrap_or(15)
 }
 
 // The bytes of a word of pairs.
-pub fn put_pairs(bytes: &mut [u8], at: usize, word: &[u8]) -> usize
-    ensures { page result bytes.new ≡ puts_of (pairs_of word.now) (page at bytes.old) }
+pub fn put_pairs(page: &mut Page, word: &[u8])
+    ensures same_buffer { page.new.bytes.ghost_name ≡ page.old.bytes.ghost_name }
+    ensures put { shown page.new ≡ puts_of (pairs_of word.now) (shown page.old) }
 {
-    let mut to = at;
-    let mut i = 1;
-    while i < word.len() {
-        let b = pair(word[i - 1], word[i]);
-        to = put(bytes, to, b);
-        i += 2;
+    for two in word.chunks_exact(2) {
+        page.put(pair(two[0], two[1]));
     }
-    to
 }

@@ -2,156 +2,118 @@
 // writes it as a record of a tape. What cannot be built is told on standard error (D43).
 #![tactic(auto)]
 
-use drive_arguments::{Asked, ended, is_whole, not_so, nothing_asked, take_word};
+use buffers::Page;
+use drive_arguments::{Asked, Fault, ended, nothing_asked, take_word};
 use drive_rows::show;
 use drive_texts::{put_long, put_refusal, put_wrong};
-use host_order::Order;
-use record::is_done;
 use std::env::{Env, FillError};
-use text::{flush_to, put};
-use units::{Bytes, Clocks};
+use std::fmt;
+use text::{flush, flush_to};
+use units::Clocks;
 
 // The most samples of a transaction on a tape.
 const MOST_SAMPLES: usize = 4096;
 
-// What was asked, and the length of the last word.
-#[derive(Clone, Copy)]
-struct Heard {
-    asked: Asked,
-    long: usize,
-}
+// The kinds of a tape's records.
+const TRANSACTION: u8 = 1;
+
+const FRESH: u8 = 3;
 
 // Word `i` of the command line, or nothing where there is none. One too long for the buffer is wrong.
-fn hear(rt: &impl Env, h: Heard, i: usize, word: &mut [u8], written: &mut [u8]) -> Option<Heard> {
-    let a = h.asked;
+fn hear(
+    rt: &impl Env,
+    a: Asked,
+    i: usize,
+    word: &mut [u8],
+    written: &mut Page,
+) -> Result<Option<Asked>, Fault> {
     match rt.arg(i, word) {
-        Ok(n) => Some(Heard {
-            asked: take_word(a, &word[..n], written),
-            long: n,
-        }),
-        Err(FillError::TooLong) => Some(Heard {
-            asked: not_so(a),
-            long: 0,
-        }),
-        Err(FillError::NotPresent) => None,
+        Ok(n) => Ok(Some(take_word(a, &word[..n], written)?)),
+        Err(FillError::TooLong) => Err(Fault::Wrong(a.due, 0)),
+        Err(FillError::NotPresent) => Ok(None),
     }
 }
 
 // All words, to the last or to one that is wrong.
-fn hear_all(rt: &impl Env, word: &mut [u8], written: &mut [u8]) -> Heard {
-    let mut h = Heard {
-        asked: nothing_asked(),
-        long: 0,
-    };
+fn hear_all(rt: &impl Env, word: &mut [u8], written: &mut Page) -> Result<Asked, Fault> {
+    let mut a = nothing_asked();
     for i in 1..usize::MAX {
-        if h.asked.wrong {
-            break;
-        }
-        let Some(next) = hear(rt, h, i, word, written) else {
+        let Some(next) = hear(rt, a, i, word, written)? else {
             break;
         };
-        h = next;
+        a = next;
     }
-    h
-}
-
-fn order_of(a: Asked) -> Order {
-    Order {
-        part: a.part,
-        opcode: a.opcode,
-        mode: a.mode,
-        address: a.address,
-        cr2: a.wait,
-        wanted: Bytes::stated(a.wanted as usize),
-    }
+    ended(a)
 }
 
 // The front of a record: the length of its payload and its kind.
-fn put_record(page: &mut [u8], at: usize, long: usize, kind: u8) -> usize {
-    let a = put(page, at, (long % 256) as u8);
-    let b = put(page, a, (long / 256 % 256) as u8);
-    let c = put(page, b, kind);
-    put(page, c, 0)
+fn put_record(page: &mut Page, long: usize, kind: u8) {
+    page.put_all(&[(long % 256) as u8, (long / 256 % 256) as u8, kind, 0]);
 }
 
-// A fresh chip, where one is asked for.
-fn put_fresh(page: &mut [u8], at: usize, a: Asked) -> usize {
-    if a.fresh == 0 {
-        return at;
+// The records of a tape, with a fresh chip before the transaction where one is asked for. A transaction on it is shorter
+// than others may be.
+fn write_tape(page: &mut Page, a: Asked, samples: &[u8]) -> fmt::Result {
+    if MOST_SAMPLES < samples.len() {
+        put_long(page, Clocks::of_samples(samples))?;
+        flush_to(2, page);
+        return Ok(());
     }
-    let b = put_record(page, at, 2, 3);
-    let c = put(page, b, a.part);
-    put(page, c, a.fresh)
-}
-
-// The records of a tape. A transaction on it is shorter than others may be.
-fn write_tape(page: &mut [u8], a: Asked, samples: &[u8]) {
-    let n = samples.len();
-    if MOST_SAMPLES < n {
-        let b = put_long(page, 0, Clocks::of_samples(samples));
-        flush_to(2, page, b);
-        return;
+    if let Some(n) = a.fresh {
+        put_record(page, 2, FRESH);
+        page.put_all(&[a.order.part, n]);
     }
-    let b = put_fresh(page, 0, a);
-    let c = put_record(page, b, n, 1);
-    text::flush(page, c);
+    put_record(page, samples.len(), TRANSACTION);
+    flush(page);
     io::write_all(1, samples);
+    Ok(())
 }
 
 // What was built, in words or as a tape.
-fn tell(page: &mut [u8], a: Asked, written: &[u8], samples: &[u8]) {
+fn tell(page: &mut Page, a: Asked, written: &[u8], samples: &[u8]) -> fmt::Result {
     if a.tape {
-        write_tape(page, a, samples);
-        return;
+        return write_tape(page, a, samples);
     }
-    let all = Clocks::of_samples(samples);
-    show(page, order_of(a), all, written, samples);
+    show(page, a.order, Clocks::of_samples(samples), written, samples)
 }
 
-fn build(page: &mut [u8], a: Asked, written: &[u8], samples: &mut [u8]) {
-    let o = order_of(a);
-    let r = host::build(o, written, samples);
-    let answer = r.answer;
-    let clocks = r.clocks;
-    let n = clocks.in_clocks();
-    if !is_done(answer) {
-        let b = put_refusal(page, 0, o, answer);
-        flush_to(2, page, b);
-        return;
+fn build(page: &mut Page, a: Asked, written: &[u8], samples: &mut [u8]) -> fmt::Result {
+    match host::build(a.order, written, samples) {
+        Ok(clocks) => {
+            let built = samples.get(..clocks.in_clocks()).unwrap_or(&[]);
+            tell(page, a, written, built)
+        }
+        Err(answer) => {
+            put_refusal(page, a.order, answer)?;
+            flush_to(2, page);
+            Ok(())
+        }
     }
-    if samples.len() < n {
-        return;
-    }
-    tell(page, a, written, &samples[..n]);
 }
 
-// The word that is wrong, or that one is missing.
-fn refuse(page: &mut [u8], a: Asked, word: &[u8], long: usize) {
-    if word.len() < long {
-        return;
+fn drive(
+    rt: &impl Env,
+    page: &mut Page,
+    word: &mut [u8],
+    written: &mut Page,
+    samples: &mut [u8],
+) -> fmt::Result {
+    match hear_all(rt, word, written) {
+        Ok(asked) => build(page, asked, written.written(), samples),
+        Err(fault) => {
+            put_wrong(page, fault, word)?;
+            flush_to(2, page);
+            Ok(())
+        }
     }
-    let b = put_wrong(page, 0, a, &word[..long]);
-    flush_to(2, page, b);
-}
-
-fn drive(rt: &impl Env, page: &mut [u8], word: &mut [u8], written: &mut [u8], samples: &mut [u8]) {
-    let h = hear_all(rt, word, written);
-    let a = ended(h.asked);
-    let n = a.written;
-    if !is_whole(a) {
-        refuse(page, a, word, h.long);
-        return;
-    }
-    if written.len() < n {
-        return;
-    }
-    build(page, a, &written[..n], samples);
 }
 
 fn main(rt: HostRuntime) {
-    let mut page = io::large_buffer();
+    let mut text = io::large_buffer();
     let mut word = io::large_buffer();
-    let mut written = io::large_buffer();
+    let mut bytes = io::large_buffer();
     let mut samples = io::large_buffer();
-    drive(&rt, &mut page, &mut word, &mut written, &mut samples);
+    let mut page = Page::begun(&mut text, 0);
+    let mut written = Page::begun(&mut bytes, 0);
+    let _ = drive(&rt, &mut page, &mut word, &mut written, &mut samples);
 }

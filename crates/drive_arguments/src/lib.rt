@@ -2,251 +2,193 @@
 // and then options in any order (D39).
 #![tactic(auto)]
 
-use digits::{Number, is_paired, number_in, put_pairs};
-use parts::{PartM, PartM32, PartP};
-use text::is_same;
+use buffers::Page;
+use digits::{is_paired, number_in, put_pairs};
+use host_order::Order;
+use parts::{Part, PartM};
+use std::fmt;
+use units::Bytes;
 
-// What was asked so far. `due` is the number of the word that comes next: 1 to 4 for part, opcode, mode and address,
-// 5 for an option, 6 to 9 for what --read, --write, --wait and --fresh take. `wrong` says that the last word was not what
-// was due. `written` is how many bytes --write has; `fresh` is 0 where there is no --fresh.
+// The word that comes next: one of the first four, an option, or what the option before takes.
+#[derive(Clone, Copy, PartialEq, Eq)]
+pub enum Due {
+    Part,
+    Opcode,
+    Mode,
+    Address,
+    Option,
+    Wanted,
+    Written,
+    Wait,
+    Fresh,
+}
+
+// What it may be.
+impl fmt::Display for Due {
+    fn fmt<W: fmt::Write>(&self, f: &mut fmt::Formatter<W>) -> fmt::Result {
+        f.write_str(match self {
+            Due::Part => "PART is M, M32 or P",
+            Due::Opcode => "OPCODE is one or two hexadecimal digits",
+            Due::Mode => "MODE is 1, 2 or 4",
+            Due::Address => "ADDRESS is up to eight hexadecimal digits, or - for none",
+            Due::Option => "an option is --read, --write, --wait, --tape or --fresh",
+            Due::Wanted => "--read takes a number of bytes in decimal",
+            Due::Written => "--write takes pairs of hexadecimal digits",
+            Due::Wait => "--wait takes one or two hexadecimal digits",
+            Due::Fresh => "--fresh takes a number from 10 to 15",
+        })
+    }
+}
+
+// Why words are no command: the last of them, of so many bytes, is not what was due; or what was due is missing; or
+// --tape is, where there is --fresh.
+#[derive(Clone, Copy, PartialEq, Eq)]
+pub enum Fault {
+    Wrong(Due, usize),
+    Missing(Due),
+    Untaped,
+}
+
+// What was asked so far, with the n of a fresh chip where there is --fresh, and what comes next.
 #[derive(Clone, Copy)]
 pub struct Asked {
-    pub part: u8,
-    pub opcode: u8,
-    pub mode: u8,
-    pub address: u32,
-    pub wait: u8,
-    pub wanted: u32,
-    pub written: usize,
+    pub order: Order,
     pub tape: bool,
-    pub fresh: u8,
-    pub due: u8,
-    pub wrong: bool,
+    pub fresh: Option<u8>,
+    pub due: Due,
 }
 
 // Before the first word. The wait is that of a fresh chip (D40).
 pub fn nothing_asked() -> Asked {
     Asked {
-        part: 0,
-        opcode: 0,
-        mode: 0,
-        address: 0,
-        wait: PartM::FRESH_CR2,
-        wanted: 0,
-        written: 0,
+        order: Order {
+            part: 0,
+            opcode: 0,
+            mode: 0,
+            address: 0,
+            cr2: PartM::FRESH_CR2,
+            wanted: Bytes::none(),
+        },
         tape: false,
-        fresh: 0,
-        due: 1,
-        wrong: false,
+        fresh: None,
+        due: Due::Part,
     }
 }
 
-// A word that is not what was due.
-pub fn not_so(mut a: Asked) -> Asked {
-    a.wrong = true;
-    a
+// The part of a name.
+fn part_in(word: &[u8]) -> Option<Part> {
+    match word {
+        [b'M' | b'm'] => Some(Part::M),
+        [b'P' | b'p'] => Some(Part::P),
+        [b'M' | b'm', b'3', b'2'] => Some(Part::M32),
+        _ => None,
+    }
 }
 
-fn next_due(mut a: Asked, due: u8) -> Asked {
-    a.due = due;
-    a
+// The mode of a digit.
+fn mode_in(word: &[u8]) -> Option<u8> {
+    match word {
+        [b'1'] => Some(1),
+        [b'2'] => Some(2),
+        [b'4'] => Some(4),
+        _ => None,
+    }
 }
 
 // A number of so many hexadecimal digits at most.
-fn hex_in(word: &[u8], digits: usize) -> Number {
+fn hex_in(word: &[u8], digits: usize) -> Option<u32> {
     if digits < word.len() {
-        return Number {
-            good: false,
-            value: 0,
-        };
+        return None;
     }
-    number_in(word, 16, 0xFFFFFFFF)
+    number_in(word, 16, u32::MAX)
 }
 
-// The part of a letter, 0 where there is none.
-fn part_of_letter(letter: u8) -> u8 {
-    match letter {
-        b'M' | b'm' => PartM::NUMBER,
-        b'P' | b'p' => PartP::NUMBER,
-        _ => 0,
-    }
-}
-
-// The part of a name, 0 where there is none.
-fn part_in(word: &[u8]) -> u8 {
-    if word.len() == 1 {
-        return part_of_letter(word[0]);
-    }
-    if is_same(word, b"M32") {
-        return PartM32::NUMBER;
-    }
-    if is_same(word, b"m32") {
-        return PartM32::NUMBER;
-    }
-    0
-}
-
-fn take_part(mut a: Asked, word: &[u8]) -> Asked {
-    let part = part_in(word);
-    if part == 0 {
-        return not_so(a);
-    }
-    a.part = part;
-    a.due = 2;
-    a
-}
-
-fn take_opcode(mut a: Asked, word: &[u8]) -> Asked {
-    let n = hex_in(word, 2);
-    if !n.good {
-        return not_so(a);
-    }
-    a.opcode = (n.value % 256) as u8;
-    a.due = 3;
-    a
-}
-
-// The mode of a digit, 0 where there is none.
-fn mode_in(word: &[u8]) -> u8 {
-    if word.len() != 1 {
-        return 0;
-    }
-    match word[0] {
-        b'1' => 1,
-        b'2' => 2,
-        b'4' => 4,
-        _ => 0,
-    }
-}
-
-fn take_mode(mut a: Asked, word: &[u8]) -> Asked {
-    let mode = mode_in(word);
-    if mode == 0 {
-        return not_so(a);
-    }
-    a.mode = mode;
-    a.due = 4;
-    a
-}
-
-// A command without address has a dash for it.
-fn take_address(mut a: Asked, word: &[u8]) -> Asked {
-    if is_same(word, b"-") {
-        return next_due(a, 5);
-    }
-    let n = hex_in(word, 8);
-    if !n.good {
-        return not_so(a);
-    }
-    a.address = n.value;
-    a.due = 5;
-    a
-}
-
-fn take_tape(mut a: Asked) -> Asked {
-    a.tape = true;
-    a
-}
-
-fn take_option(a: Asked, word: &[u8]) -> Asked {
-    if is_same(word, b"--read") {
-        return next_due(a, 6);
-    }
-    if is_same(word, b"--write") {
-        return next_due(a, 7);
-    }
-    if is_same(word, b"--wait") {
-        return next_due(a, 8);
-    }
-    if is_same(word, b"--fresh") {
-        return next_due(a, 9);
-    }
-    if is_same(word, b"--tape") {
-        return take_tape(a);
-    }
-    not_so(a)
-}
-
-fn take_wanted(mut a: Asked, word: &[u8]) -> Asked {
-    let n = number_in(word, 10, 0xFFFFFFFF);
-    if !n.good {
-        return not_so(a);
-    }
-    a.wanted = n.value;
-    a.due = 5;
-    a
-}
-
-fn take_written(mut a: Asked, word: &[u8], written: &mut [u8]) -> Asked {
-    if !is_paired(word) {
-        return not_so(a);
-    }
-    a.written = put_pairs(written, 0, word);
-    a.due = 5;
-    a
-}
-
-fn take_wait(mut a: Asked, word: &[u8]) -> Asked {
-    let n = hex_in(word, 2);
-    if !n.good {
-        return not_so(a);
-    }
-    a.wait = (n.value % 256) as u8;
-    a.due = 5;
-    a
+// A byte, in one or two of them.
+fn byte_in(word: &[u8]) -> Option<u8> {
+    u8::try_from(hex_in(word, 2)?).ok()
 }
 
 // The sizes of a chip that a tape has.
-fn take_fresh(mut a: Asked, word: &[u8]) -> Asked {
-    let n = number_in(word, 10, 15);
-    if !n.good {
-        return not_so(a);
-    }
-    if n.value < 10 {
-        return not_so(a);
-    }
-    a.fresh = (n.value % 256) as u8;
-    a.due = 5;
-    a
+fn fresh_in(word: &[u8]) -> Option<u8> {
+    u8::try_from(number_in(word, 10, 15)?)
+        .ok()
+        .filter(|n| 10 <= *n)
 }
 
-// One word more. The bytes of --write go to `written`.
-pub fn take_word(a: Asked, word: &[u8], written: &mut [u8]) -> Asked {
-    let due = a.due;
-    match due {
-        1 => take_part(a, word),
-        2 => take_opcode(a, word),
-        3 => take_mode(a, word),
-        4 => take_address(a, word),
-        5 => take_option(a, word),
-        6 => take_wanted(a, word),
-        7 => take_written(a, word, written),
-        8 => take_wait(a, word),
-        _ => take_fresh(a, word),
+// What an option takes, and --tape nothing.
+fn after_option(word: &[u8]) -> Option<Due> {
+    match word {
+        b"--read" => Some(Due::Wanted),
+        b"--write" => Some(Due::Written),
+        b"--wait" => Some(Due::Wait),
+        b"--fresh" => Some(Due::Fresh),
+        b"--tape" => Some(Due::Option),
+        _ => None,
     }
 }
 
-// After the last word: --fresh goes with --tape, which is number 10 where it is missing (D41).
-pub fn ended(a: Asked) -> Asked {
-    if a.wrong {
-        return a;
-    }
-    if a.due != 5 {
-        return a;
-    }
-    if a.fresh == 0 {
-        return a;
-    }
-    if a.tape {
-        return a;
-    }
-    next_due(a, 10)
+// One word more, where it is what was due. The bytes of --write go to `written`.
+fn taken(mut a: Asked, word: &[u8], written: &mut Page) -> Option<Asked> {
+    a.due = match a.due {
+        Due::Part => {
+            a.order.part = part_in(word)?.into();
+            Due::Opcode
+        }
+        Due::Opcode => {
+            a.order.opcode = byte_in(word)?;
+            Due::Mode
+        }
+        Due::Mode => {
+            a.order.mode = mode_in(word)?;
+            Due::Address
+        }
+        // A command without address has a dash for it.
+        Due::Address => {
+            if word != b"-".as_slice() {
+                a.order.address = hex_in(word, 8)?;
+            }
+            Due::Option
+        }
+        Due::Option => {
+            a.tape |= word == b"--tape".as_slice();
+            after_option(word)?
+        }
+        Due::Wanted => {
+            a.order.wanted = Bytes::stated(number_in(word, 10, u32::MAX)? as usize);
+            Due::Option
+        }
+        Due::Written => {
+            if !is_paired(word) {
+                return None;
+            }
+            written.clear();
+            put_pairs(written, word);
+            Due::Option
+        }
+        Due::Wait => {
+            a.order.cr2 = byte_in(word)?;
+            Due::Option
+        }
+        Due::Fresh => {
+            a.fresh = Some(fresh_in(word)?);
+            Due::Option
+        }
+    };
+    Some(a)
 }
 
-// Whether no word is wrong and none is missing.
-pub fn is_whole(a: Asked) -> bool {
-    if a.wrong {
-        return false;
+// One word more, or that it is not what was due.
+pub fn take_word(a: Asked, word: &[u8], written: &mut Page) -> Result<Asked, Fault> {
+    taken(a, word, written).ok_or(Fault::Wrong(a.due, word.len()))
+}
+
+// After the last word: all are there, and --fresh goes with --tape (D41).
+pub fn ended(a: Asked) -> Result<Asked, Fault> {
+    if a.due != Due::Option {
+        return Err(Fault::Missing(a.due));
     }
-    a.due == 5
+    if a.fresh.is_some() && !a.tape {
+        return Err(Fault::Untaped);
+    }
+    Ok(a)
 }

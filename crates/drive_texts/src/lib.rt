@@ -2,174 +2,130 @@
 #![tactic(auto)]
 
 use commands::plans::Body;
-use drive_arguments::Asked;
+use drive_arguments::Fault;
 use host_order::{Order, body_asked, kind_asked};
 use list_answers::put_named;
-use list_names::{put_part, put_wires};
 use list_rows::put_bytes;
 use parts::Part;
 use record::{Answer, mode_wires};
-use text::{put_all, put_decimal, put_hex, put_word};
+use std::fmt;
+use std::fmt::Write;
+use text::Page;
 use units::{Bytes, Clocks};
 
 // ---- words
 
-fn put_usage(page: &mut [u8], at: usize) -> usize {
-    put_all(
-        page,
-        at,
-        b"drive PART OPCODE MODE ADDRESS [--read N] [--write HEX] [--wait HEX] [--tape [--fresh N]]\n\
-        \x20 PART is M, M32 or P, OPCODE hexadecimal, MODE 1, 2 or 4 wires, ADDRESS hexadecimal or - for none\n\
-        \x20 --read N     so many bytes to read, in decimal\n\
-        \x20 --write HEX  the bytes to write, two digits each\n\
-        \x20 --wait HEX   configuration 2, the wait of 4B; 8 without it, as in a fresh chip\n\
-        \x20 --tape       writes a tape record and no text\n\
-        \x20 --fresh N    before it a record with a fresh chip of 2^N bytes, N from 10 to 15\n",
-    )
-}
+const USAGE: &str =
+    "drive PART OPCODE MODE ADDRESS [--read N] [--write HEX] [--wait HEX] [--tape [--fresh N]]\n\
+    \x20 PART is M, M32 or P, OPCODE hexadecimal, MODE 1, 2 or 4 wires, ADDRESS hexadecimal or - for none\n\
+    \x20 --read N     so many bytes to read, in decimal\n\
+    \x20 --write HEX  the bytes to write, two digits each\n\
+    \x20 --wait HEX   configuration 2, the wait of 4B; 8 without it, as in a fresh chip\n\
+    \x20 --tape       writes a tape record and no text\n\
+    \x20 --fresh N    before it a record with a fresh chip of 2^N bytes, N from 10 to 15\n";
 
-// The word that was due.
-fn put_due(page: &mut [u8], at: usize, due: u8) -> usize {
-    put_word(
-        page,
-        at,
-        b"|PART is M, M32 or P\
-        |OPCODE is one or two hexadecimal digits\
-        |MODE is 1, 2 or 4\
-        |ADDRESS is up to eight hexadecimal digits, or - for none\
-        |an option is --read, --write, --wait, --tape or --fresh\
-        |--read takes a number of bytes in decimal\
-        |--write takes pairs of hexadecimal digits\
-        |--wait takes one or two hexadecimal digits\
-        |--fresh takes a number from 10 to 15\
-        |--fresh goes with --tape",
-        due as usize,
-    )
-}
-
-// What was due, the word that is not that, or that there is none, and how a command is written.
-pub fn put_wrong(page: &mut [u8], at: usize, a: Asked, word: &[u8]) -> usize {
-    let b = put_all(page, at, b"drive: ");
-    let c = put_due(page, b, a.due);
-    let d = put_found(page, c, a.wrong, word);
-    put_usage(page, d)
-}
-
-fn put_found(page: &mut [u8], at: usize, wrong: bool, word: &[u8]) -> usize {
-    if !wrong {
-        return put_all(page, at, b", and it is missing.\n");
+// What was due, and the word that is not that, or that there is none.
+fn put_fault(page: &mut Page, fault: Fault, word: &[u8]) -> fmt::Result {
+    match fault {
+        Fault::Wrong(due, long) => {
+            write!(page, "{due}, and not \"")?;
+            page.put_all(word.get(..long).unwrap_or(&[]));
+            writeln!(page, "\".")
+        }
+        Fault::Missing(due) => writeln!(page, "{due}, and it is missing."),
+        Fault::Untaped => writeln!(page, "--fresh goes with --tape, and it is missing."),
     }
-    let b = put_all(page, at, b", and not \"");
-    let c = put_all(page, b, word);
-    put_all(page, c, b"\".\n")
+}
+
+// That, and how a command is written. The wrong word is at the front of `word`.
+pub fn put_wrong(page: &mut Page, fault: Fault, word: &[u8]) -> fmt::Result {
+    page.write_str("drive: ")?;
+    put_fault(page, fault, word)?;
+    page.write_str(USAGE)
 }
 
 // ---- refusals
 
-// The text on too few bytes, by the data of the command, in the list of `put_count`.
-fn few(b: Body) -> usize {
+// The text on too few bytes, by the data of the command. Texts on a register end in its size.
+fn few(b: Body) -> &'static str {
     match b {
-        Body::Nothing => 0,
-        Body::FixedRead(_) => 1,
-        Body::AnyRead => 2,
-        Body::FixedWrite(_) => 3,
-        Body::AnyWrite => 4,
+        Body::Nothing => "",
+        Body::FixedRead(_) => "--read is missing or 0, and the register has",
+        Body::AnyRead => "--read is missing or 0, and the command reads bytes",
+        Body::FixedWrite(_) => "--write has too few bytes, and the register has",
+        Body::AnyWrite => "--write is missing, and the command writes bytes",
     }
 }
 
 // The same on too many.
-fn many(b: Body) -> usize {
+fn many(b: Body) -> &'static str {
     match b {
-        Body::Nothing => 5,
-        Body::FixedRead(_) => 6,
-        Body::AnyRead => 0,
-        Body::FixedWrite(_) => 7,
-        Body::AnyWrite => 0,
+        Body::Nothing => "the command has no data, and takes neither --read nor --write",
+        Body::FixedRead(_) => "--read asks for too many bytes, and the most here is",
+        Body::FixedWrite(_) => "--write has too many bytes, and the register has",
+        Body::AnyRead | Body::AnyWrite => "",
     }
 }
 
 // The bytes of a command whose data has a size.
-fn size_of(b: Body) -> Bytes {
+fn size_of(b: Body) -> Option<Bytes> {
     match b {
-        Body::Nothing => Bytes::none(),
-        Body::FixedRead(size) => size,
-        Body::AnyRead => Bytes::none(),
-        Body::FixedWrite(size) => size,
-        Body::AnyWrite => Bytes::none(),
+        Body::FixedRead(size) | Body::FixedWrite(size) => Some(size),
+        Body::Nothing | Body::AnyRead | Body::AnyWrite => None,
     }
 }
 
-// Texts on a register end in its size.
-fn put_count(page: &mut [u8], at: usize, text: usize, b: Body) -> usize {
-    let c = put_word(
-        page,
-        at,
-        b"|--read is missing or 0, and the register has\
-        |--read is missing or 0, and the command reads bytes\
-        |--write has too few bytes, and the register has\
-        |--write is missing, and the command writes bytes\
-        |the command has no data, and takes neither --read nor --write\
-        |--read asks for too many bytes, and the most here is\
-        |--write has too many bytes, and the register has",
-        text,
-    );
-    let d = put_size(page, c, size_of(b));
-    put_all(page, d, b".\n")
-}
-
-fn put_size(page: &mut [u8], at: usize, size: Bytes) -> usize {
-    if size == Bytes::none() {
-        return at;
+fn put_count(page: &mut Page, text: &str, b: Body) -> fmt::Result {
+    page.write_str(text)?;
+    if let Some(size) = size_of(b) {
+        page.write_str(" ")?;
+        put_bytes(page, size)?;
     }
-    let b = put_all(page, at, b" ");
-    put_bytes(page, b, size)
+    page.write_str(".\n")
 }
 
 // An opcode that the part has not in this mode.
-fn put_unknown(page: &mut [u8], at: usize, o: Order) -> usize {
-    let b = put_part(page, at, Part::of(o.part));
-    let c = put_all(page, b, b" has no command ");
-    let d = put_hex(page, c, o.opcode as u64, 2);
-    let e = put_all(page, d, b" on ");
-    let f = put_wires(page, e, mode_wires(o.mode));
-    put_all(page, f, b".\n")
-}
-
-fn put_reason(page: &mut [u8], at: usize, o: Order, a: Answer) -> usize {
-    let b = body_asked(o, kind_asked(o));
-    if let Answer::Unknown = a {
-        return put_unknown(page, at, o);
-    }
-    if let Answer::Short = a {
-        return put_count(page, at, few(b), b);
-    }
-    if let Answer::Long = a {
-        return put_count(page, at, many(b), b);
-    }
-    put_word(
+fn put_unknown(page: &mut Page, o: Order) -> fmt::Result {
+    writeln!(
         page,
-        at,
-        b"|the command takes more than the 65,535 clocks that a transaction has.\n\
-        ||||||the address has more than 24 bits, it is FFFFFF at most.\n\
-        |||the wait of this command has four bits, --wait is 0F at most.\n",
-        u8::from(a) as usize,
+        "{} has no command {:02X} on {}.",
+        Part::of(o.part),
+        o.opcode,
+        mode_wires(o.mode)
     )
 }
 
+fn put_reason(page: &mut Page, o: Order, a: Answer) -> fmt::Result {
+    let b = body_asked(o, kind_asked(o));
+    match a {
+        Answer::Size => page.write_str(
+            "the command takes more than the 65,535 clocks that a transaction has.\n",
+        ),
+        Answer::Short => put_count(page, few(b), b),
+        Answer::Unknown => put_unknown(page, o),
+        Answer::Address => {
+            page.write_str("the address has more than 24 bits, it is FFFFFF at most.\n")
+        }
+        Answer::Reserved => {
+            page.write_str("the wait of this command has four bits, --wait is 0F at most.\n")
+        }
+        Answer::Long => put_count(page, many(b), b),
+        _ => Ok(()),
+    }
+}
+
 // Why a command is refused.
-pub fn put_refusal(page: &mut [u8], at: usize, o: Order, a: Answer) -> usize {
-    let b = put_all(page, at, b"drive: refused, answer ");
-    let c = put_named(page, b, a);
-    put_reason(page, c, o, a)
+pub fn put_refusal(page: &mut Page, o: Order, a: Answer) -> fmt::Result {
+    page.write_str("drive: refused, answer ")?;
+    put_named(page, a)?;
+    put_reason(page, o, a)
 }
 
 // More samples than a record of the tape has.
-pub fn put_long(page: &mut [u8], at: usize, c: Clocks) -> usize {
-    let b = put_all(
+pub fn put_long(page: &mut Page, c: Clocks) -> fmt::Result {
+    writeln!(
         page,
-        at,
-        b"drive: a transaction on a tape has at most 4,096 samples, and this has ",
-    );
-    let d = put_decimal(page, b, c.in_clocks() as u64);
-    put_all(page, d, b".\n")
+        "drive: a transaction on a tape has at most 4,096 samples, and this has {}.",
+        c.in_clocks()
+    )
 }

@@ -6,6 +6,7 @@ ghost use Rattle.std.specs.Prelude.{◌≡◌};
 ghost use Rattle.parts.specs.Parts.{part_of, part_named, part_number, family_of, least_of, most_of, offered, area_of, section_of, wrap_codes, limits_of};
 ghost use Rattle.parts.specs.Lengths.{wrap_length, group_length, share_of};
 
+use std::fmt;
 use units::Bytes;
 
 // The limits of a part: a memory has 2^n bytes, n from `least` to `most`; the bytes of the augmented area and of each of its
@@ -96,6 +97,16 @@ pub enum Part {
     M,
     P,
     M32,
+}
+
+impl fmt::Display for Part {
+    fn fmt<W: fmt::Write>(&self, f: &mut fmt::Formatter<W>) -> fmt::Result {
+        f.write_str(match self {
+            Part::M => "part M",
+            Part::P => "part P",
+            Part::M32 => "part M32",
+        })
+    }
 }
 
 // A number that stands for no part.

@@ -2,6 +2,8 @@
 ghost use Rattle.std.specs.Prelude.{◌≡◌};
 ghost use Rattle.record.specs.Answers.{answer_number, class_of, is_done, refuses, is_protected};
 
+use std::fmt;
+
 // What a call is answered, with the papers' number for it.
 #[derive(Clone, Copy, PartialEq, Eq)]
 pub enum Answer {
@@ -19,6 +21,28 @@ pub enum Answer {
     Long = 11,
     Unarmed = 12,
     Turn = 13,
+}
+
+// Its name.
+impl fmt::Display for Answer {
+    fn fmt<W: fmt::Write>(&self, f: &mut fmt::Formatter<W>) -> fmt::Result {
+        f.write_str(match self {
+            Answer::Done => "DONE",
+            Answer::Size => "SIZE",
+            Answer::Sample => "SAMPLE",
+            Answer::State => "STATE",
+            Answer::Short => "SHORT",
+            Answer::Unknown => "UNKNOWN",
+            Answer::Asleep => "ASLEEP",
+            Answer::Address => "ADDRESS",
+            Answer::Latch => "LATCH",
+            Answer::Protected => "PROTECTED",
+            Answer::Reserved => "RESERVED",
+            Answer::Long => "LONG",
+            Answer::Unarmed => "UNARMED",
+            Answer::Turn => "TURN",
+        })
+    }
 }
 
 impl From<Answer> for u8 {

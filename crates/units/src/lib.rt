@@ -12,6 +12,7 @@
 ghost use Rattle.std.specs.Prelude.{◌≡◌, ◌+◌, ◌≤◌, ◌<◌, length};
 ghost use Rattle.units.specs.Units.{clocks, bytes, next, next_byte, plus, less, up_to, longest, wires_of, per_byte, clocks_of, clocks_within, whole_of, unfinished_of, byte_clocks, coming_of, bits_in};
 
+use std::fmt;
 use std::ops::{Add, Sub};
 
 // A number of clocks (D18). Clocks and bytes are two tuple structs, as document 01 asks, so that one never stands where the other
@@ -29,6 +30,16 @@ pub enum Wires {
     One,
     Two,
     Four,
+}
+
+impl fmt::Display for Wires {
+    fn fmt<W: fmt::Write>(&self, f: &mut fmt::Formatter<W>) -> fmt::Result {
+        f.write_str(match self {
+            Wires::One => "one wire",
+            Wires::Two => "two wires",
+            Wires::Four => "four wires",
+        })
+    }
 }
 
 impl Clocks {

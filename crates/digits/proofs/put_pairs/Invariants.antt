@@ -1,13 +1,14 @@
--- `digits::put_pairs` meets its contract. The invariant: the pairs that are left, put from here, come to the whole.
+-- `digits::put_pairs` meets its contract. The invariant: the pairs that are left, put from here, come to the whole, in the same buffer.
 -- Assumes nothing.
-use Prim.Native.Nat.{◌-◌}
-use lib.ListN.{length}
-use Rattle.digits.specs.Laws.{Pairing}
-use Rattle.buffers.specs.Page.{page}
+use Rattle.std.proofs.Common.{◌≡◌}
+use Rattle.std.specs.Slice.Iter.{chunks_exact_rest, chunks_exact_size}
+use Rattle.buffers.specs.Laws.{Left}
+use Rattle.buffers.specs.Shown.{shown}
+use Rattle.digits.specs.Digits.{pairs_of}
 use Rattle.digits.proofs.put_pairs.Given as goal
 
-abbrev pub invariant-loop-i : goal.invariant-loop-i
-invariant-loop-i l = Pairing l.word (page l.initial.to l.initial.bytes) l.i (page l.to l.bytes)
-
-abbrev pub decreases-loop-i : goal.decreases-loop-i
-decreases-loop-i l = length l.word - l.i
+abbrev pub invariant-loop-two : goal.invariant-loop-two
+invariant-loop-two l =
+    (l.page.bytes.ghost_name ≡ l.initial.page.bytes.ghost_name)
+    × (chunks_exact_size l.two-iterator ≡ 2)
+    × Left (pairs_of l.word) (shown l.initial.page) (pairs_of (chunks_exact_rest l.two-iterator)) (shown l.page)
