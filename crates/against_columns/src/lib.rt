@@ -1,136 +1,83 @@
 // What a record left, in few characters: the chip, digests, and the driven samples.
 #![tactic(auto)]
 
-use bench_columns::{column, digest_column, five};
+use bench_columns::{digest_column, five};
 use counts::Counts;
+use parts::Part;
 use record::{Answer, Device, is_refusal};
-use text::{put, put_all, put_bytes, put_decimal, put_hex, put_word};
+use std::fmt;
+use std::fmt::Write;
+use text::{Page, put_bytes};
 
 // The number of a call, its answer and its five counts.
-pub fn call_columns(text: &mut [u8], at: usize, k: u64, answer: Answer, counts: Counts) -> usize {
-    let a = put_decimal(text, at, k);
-    let b = column(text, a, u8::from(answer) as u64);
-    five(text, b, counts)
+pub fn call_columns(page: &mut Page, k: u64, answer: Answer, counts: Counts) -> fmt::Result {
+    write!(page, "{k} {}", u8::from(answer))?;
+    five(page, counts);
+    Ok(())
 }
 
-// A bit as a digit.
-fn flag(text: &mut [u8], at: usize, on: bool) -> usize {
-    if on {
-        return put(text, at, b'1');
+// The name of the part; a number that is no part's has none.
+fn part(page: &mut Page, d: Device) -> fmt::Result {
+    match Part::try_from(d.make.part) {
+        Ok(Part::M) => write!(page, " M"),
+        Ok(Part::P) => write!(page, " P"),
+        Ok(Part::M32) => write!(page, " M32"),
+        Err(_) => Ok(()),
     }
-    put(text, at, b'0')
 }
 
-// The latch, the arming, sleep and the toggle.
-fn flags(text: &mut [u8], at: usize, d: Device) -> usize {
+// The chip's n and mode, and its latch, arming, sleep and toggle as digits.
+fn state_columns(page: &mut Page, d: Device) -> fmt::Result {
     let v = d.volatile;
-    let a = put(text, at, b' ');
-    let b = flag(text, a, v.latch);
-    let c = flag(text, b, v.armed);
-    let e = flag(text, c, v.asleep);
-    flag(text, e, v.toggle)
-}
-
-// A byte as two digits.
-fn pair(text: &mut [u8], at: usize, v: u8) -> usize {
-    put_hex(text, at, v as u64, 2)
+    write!(page, " {} {} ", d.make.n, v.mode)?;
+    for flag in [v.latch, v.armed, v.asleep, v.toggle] {
+        write!(page, "{}", u8::from(flag))?;
+    }
+    Ok(())
 }
 
 // Status, area protection, configurations 1 to 4 and the mode register.
-fn registers(text: &mut [u8], at: usize, d: Device) -> usize {
+fn registers(page: &mut Page, d: Device) -> fmt::Result {
     let r = d.registers;
-    let a = put(text, at, b' ');
-    let b = pair(text, a, r.status);
-    let c = pair(text, b, r.protection);
-    let e = pair(text, c, r.cr1);
-    let f = pair(text, e, r.cr2);
-    let g = pair(text, f, r.cr3);
-    let h = pair(text, g, r.cr4);
-    pair(text, h, r.mr0)
+    bytes_column(
+        page,
+        &[r.status, r.protection, r.cr1, r.cr2, r.cr3, r.cr4, r.mr0],
+    )
 }
 
-// Eight bytes, byte 0 first.
-fn eight_column(text: &mut [u8], at: usize, bytes: [u8; 8]) -> usize {
-    let a = put(text, at, b' ');
-    put_bytes(text, a, &bytes)
+// Bytes behind a space, byte 0 first.
+fn bytes_column(page: &mut Page, bytes: &[u8]) -> fmt::Result {
+    page.put(b' ');
+    put_bytes(page, bytes)
 }
 
-// The chip's n and mode, its flags and registers.
-fn state_columns(text: &mut [u8], at: usize, d: Device) -> usize {
-    let v = d.volatile;
-    let a = column(text, at, d.make.n as u64);
-    let b = column(text, a, v.mode as u64);
-    let c = flags(text, b, d);
-    registers(text, c, d)
+// The chip: its part, its state, its registers, its serial number.
+pub fn chip(page: &mut Page, d: Device) -> fmt::Result {
+    part(page, d)?;
+    state_columns(page, d)?;
+    registers(page, d)?;
+    bytes_column(page, &d.identity.serial)
 }
 
-// The name of the part, by its number in the list.
-fn part(text: &mut [u8], at: usize, d: Device) -> usize {
-    put_word(text, at, b"| M| P| M32", d.make.part as usize)
-}
-
-// The chip: its part, its state, its serial number.
-pub fn chip(text: &mut [u8], at: usize, d: Device) -> usize {
-    let i = d.identity;
-    let serial = i.serial;
-    let a = part(text, at, d);
-    let b = state_columns(text, a, d);
-    eight_column(text, b, serial)
-}
-
-// The place of the first byte that is not 0, or the end.
-fn first_driven(out: &[u8]) -> usize {
-    let mut i = 0;
-    while i < out.len() {
-        if out[i] != 0 {
-            return i;
-        }
-        i += 1;
-    }
-    i
-}
-
-// The place behind the last byte that is not 0, or the front.
-fn last_driven(out: &[u8]) -> usize {
-    let mut i = out.len();
-    while i > 0 {
-        if out[i - 1] != 0 {
-            return i;
-        }
-        i -= 1;
-    }
-    0
-}
-
-// The clocks before the first driven one, and the output from there to the last driven one.
-fn driven(text: &mut [u8], at: usize, out: &[u8]) -> usize {
-    let from = first_driven(out);
-    let to = last_driven(out);
-    if to <= from {
-        return put_all(text, at, b" - -");
-    }
-    let a = column(text, at, from as u64);
-    let b = put(text, a, b' ');
-    if out.len() < to {
-        return b;
-    }
-    put_bytes(text, b, &out[from..to])
+// The output from the first byte that is not 0 to the last one, behind the number of those before it.
+fn driven(page: &mut Page, out: &[u8]) -> fmt::Result {
+    let Some(from) = out.iter().position(|b| *b != 0) else {
+        return write!(page, " - -");
+    };
+    write!(page, " {from}")?;
+    let rest = &out[from..];
+    let undriven = rest.iter().rev().take_while(|b| **b == 0).count();
+    bytes_column(page, &rest[..rest.len() - undriven])
 }
 
 // What a transaction drove: nothing where it was refused.
-pub fn output_columns(
-    text: &mut [u8],
-    at: usize,
-    answer: Answer,
-    long: usize,
-    out: &[u8],
-) -> usize {
-    let a = digest_column(text, at, out);
+pub fn output_columns(page: &mut Page, answer: Answer, long: usize, out: &[u8]) -> fmt::Result {
+    digest_column(page, out)?;
     if is_refusal(answer) {
-        return put_all(text, a, b" - -");
+        return write!(page, " - -");
     }
-    if out.len() < long {
-        return a;
+    match out.get(..long) {
+        Some(clocked) => driven(page, clocked),
+        None => Ok(()),
     }
-    driven(text, a, &out[..long])
 }

@@ -4,34 +4,18 @@
 use against_input::take_tape;
 use bench_play::{play, too_long};
 
-// One tape, and whether there may be more.
-fn turn(tape: &mut [u8]) -> bool {
-    let t = take_tape(tape);
-    if !t.whole {
-        return false;
-    }
-    if t.last {
-        return false;
-    }
-    if tape.len() < t.long {
-        too_long();
-        return true;
-    }
-    play(&tape[..t.long]);
-    true
-}
-
-fn all(tape: &mut [u8]) {
-    let mut k: usize = 0;
-    while k < 1000 {
-        if !turn(tape) {
-            return;
-        }
-        k += 1;
-    }
-}
+// The tapes that are taken at most.
+const TAPES: usize = 1000;
 
 fn main() {
-    let mut tape = io::large_buffer();
-    all(&mut tape);
+    let mut room = io::large_buffer();
+    for _ in 0..TAPES {
+        let Ok(Some(long)) = take_tape(&mut room) else {
+            return;
+        };
+        match room.get(..long) {
+            Some(tape) => play(tape),
+            None => too_long(),
+        }
+    }
 }

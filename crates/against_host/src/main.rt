@@ -2,197 +2,96 @@
 // it tells, and a digest of the whole buffer that was lent. The second program prints the same.
 #![tactic(auto)]
 
-ghost use Rattle.std.specs.Prelude.{◌≡◌, length};
-
-use against_input::is_taken;
-use bench_columns::{Printed, column, cut, digest_column, fill, going, stopped};
+use against_input::{Cut, play, take, take_head};
+use bench_columns::{digest_column, fill, room};
 use buffers::number_of;
 use host_order::Order;
-use text::{put, put_decimal};
+use record::Answer;
+use std::fmt;
+use std::fmt::Write;
+use text::Page;
 use units::Bytes;
 
-// The 24 bytes before a request's data, or that the input ends before them or within them.
+// A call of the host half: a command becomes samples, or what was driven on so many wires becomes bytes.
 #[derive(Clone, Copy)]
-struct Head {
-    last: bool,
-    whole: bool,
-    bytes: [u8; 24],
+enum Call {
+    Build(Order),
+    Gather(u8),
 }
 
-// A call of the host half: 1 builds, 2 gathers, on so many wires as `part` says. `room` is the length of the buffer lent,
-// `long` that of the data.
+// A call, the length of its data and the length of the buffer that is lent to it.
 #[derive(Clone, Copy)]
 struct Request {
-    call: u8,
-    part: u8,
-    opcode: u8,
-    mode: u8,
-    cr2: u8,
-    address: u32,
-    wanted: u32,
-    room: usize,
+    call: Call,
     long: usize,
+    room: usize,
 }
 
-// What a call came to.
-#[derive(Clone, Copy)]
-struct Told {
-    answer: u8,
-    number: usize,
-}
+// The request that 24 bytes spell.
+impl TryFrom<[u8; 24]> for Request {
+    type Error = Cut;
 
-fn take_head() -> Head {
-    let mut bytes = [0u8; 24];
-    let n = io::read_full(0, &mut bytes);
-    Head {
-        last: n == 0,
-        whole: n == 24,
-        bytes,
+    fn try_from(h: [u8; 24]) -> Result<Self, Cut> {
+        let order = Order {
+            part: h[1],
+            opcode: h[2],
+            mode: h[3],
+            cr2: h[4],
+            address: number_of(h[8], h[9], h[10], h[11]),
+            wanted: Bytes::stated(number_of(h[12], h[13], h[14], h[15]) as usize),
+        };
+        let call = match h[0] {
+            1 => Call::Build(order),
+            2 => Call::Gather(h[1]),
+            _ => return Err(Cut),
+        };
+        Ok(Request {
+            call,
+            room: number_of(h[16], h[17], h[18], h[19]) as usize,
+            long: number_of(h[20], h[21], h[22], h[23]) as usize,
+        })
     }
 }
 
-fn request_of(h: [u8; 24]) -> Request {
-    Request {
-        call: h[0],
-        part: h[1],
-        opcode: h[2],
-        mode: h[3],
-        cr2: h[4],
-        address: number_of(h[8], h[9], h[10], h[11]),
-        wanted: number_of(h[12], h[13], h[14], h[15]),
-        room: number_of(h[16], h[17], h[18], h[19]) as usize,
-        long: number_of(h[20], h[21], h[22], h[23]) as usize,
+// What a call comes to: how many clocks or bytes it made.
+fn called(c: Call, input: &[u8], buffer: &mut [u8]) -> Result<usize, Answer> {
+    match c {
+        Call::Build(order) => Ok(host::build(order, input, buffer)?.in_clocks()),
+        Call::Gather(wires) => Ok(host::gather(wires, input, buffer)?.in_bytes()),
     }
-}
-
-fn build(r: Request, written: &[u8], samples: &mut [u8]) -> Told {
-    let o = Order {
-        part: r.part,
-        opcode: r.opcode,
-        mode: r.mode,
-        address: r.address,
-        cr2: r.cr2,
-        wanted: Bytes::stated(r.wanted as usize),
-    };
-    let b = host::build(o, written, samples);
-    let answer = b.answer;
-    let clocks = b.clocks;
-    Told {
-        answer: u8::from(answer),
-        number: clocks.in_clocks(),
-    }
-}
-
-fn gather(wires: u8, driven: &[u8], bytes: &mut [u8]) -> Told {
-    let g = host::gather(wires, driven, bytes);
-    let answer = g.answer;
-    let count = g.bytes;
-    Told {
-        answer: u8::from(answer),
-        number: count.in_bytes(),
-    }
-}
-
-fn call(r: Request, input: &[u8], buffer: &mut [u8]) -> Told {
-    if r.call == 1 {
-        return build(r, input, buffer);
-    }
-    gather(r.part, input, buffer)
 }
 
 // The line of request `k`, on a buffer of its room.
-fn put_line(
-    text: &mut [u8],
-    at: usize,
-    k: u64,
-    r: Request,
-    input: &[u8],
-    buffer: &mut [u8],
-) -> usize {
+fn put_line(page: &mut Page, k: u64, c: Call, input: &[u8], buffer: &mut [u8]) -> fmt::Result {
     fill(buffer);
-    let t = call(r, input, buffer);
-    let a = put_decimal(text, at, k);
-    let b = column(text, a, t.answer as u64);
-    let c = column(text, b, t.number as u64);
-    let d = digest_column(text, c, buffer);
-    put(text, d, b'\n')
+    let (answer, number) = match called(c, input, buffer) {
+        Ok(number) => (Answer::Done, number),
+        Err(answer) => (answer, 0),
+    };
+    write!(page, "{k} {} {number}", u8::from(answer))?;
+    digest_column(page, buffer)?;
+    writeln!(page)
 }
 
-// Request `k` with its data, on a buffer of its room.
-fn run(
-    s: Printed,
-    k: u64,
-    r: Request,
-    input: &mut [u8],
-    buffer: &mut [u8],
-    text: &mut [u8],
-) -> Printed {
-    if !is_taken(input) {
-        return cut(text, s.place);
-    }
-    let place = put_line(text, s.place, k, r, input, buffer);
-    going(text, place)
-}
-
-// The same with so much of both as the request says, where there is so much.
-fn sized(
-    s: Printed,
-    k: u64,
-    r: Request,
-    input: &mut [u8],
-    buffer: &mut [u8],
-    text: &mut [u8],
-) -> Printed {
-    let long = r.long;
-    let room = r.room;
-    if input.len() < long {
-        return cut(text, s.place);
-    }
-    if buffer.len() < room {
-        return cut(text, s.place);
-    }
-    run(s, k, r, &mut input[..long], &mut buffer[..room], text)
-}
-
-fn turn(s: Printed, k: u64, input: &mut [u8], buffer: &mut [u8], text: &mut [u8]) -> Printed {
-    let h = take_head();
-    let bytes = h.bytes;
-    let r = request_of(bytes);
-    if h.last {
-        return stopped(s.place);
-    }
-    if !h.whole {
-        return cut(text, s.place);
-    }
-    if r.call < 1 {
-        return cut(text, s.place);
-    }
-    if 2 < r.call {
-        return cut(text, s.place);
-    }
-    sized(s, k, r, input, buffer, text)
-}
-
-fn all(input: &mut [u8], buffer: &mut [u8], text: &mut [u8]) {
-    let mut s = Printed { place: 0, go: true };
-    let mut k = 0;
-    while k < 1000000 && s.go {
-        k += 1;
-        s = turn(s, k, input, buffer, text);
-    }
-    text::flush(text, s.place);
-}
-
-// The room of a request: a generated one has no more than a few bytes over 65,536.
-fn room() -> [u8; 131072]
-    ensures { 131072 ≡ length result }
-{
-    [0; 131072]
+// Request `k`, where there is one, with its data, on a buffer of its room.
+fn turn(page: &mut Page, k: u64, input: &mut [u8], buffer: &mut [u8]) -> Result<bool, Cut> {
+    let Some(head) = take_head()? else {
+        return Ok(false);
+    };
+    let r = Request::try_from(head)?;
+    let input = input.get_mut(..r.long).ok_or(Cut)?;
+    let buffer = buffer.get_mut(..r.room).ok_or(Cut)?;
+    take(input)?;
+    let _ = put_line(page, k, r.call, input, buffer);
+    Ok(true)
 }
 
 fn main() {
     let mut input = io::large_buffer();
-    let mut buffer = room();
+    // a generated request has no more room than a few bytes over 65,536
+    let mut buffer = room::<131072>();
     let mut text = io::large_buffer();
-    all(&mut input, &mut buffer, &mut text);
+    play(&mut Page::begun(&mut text, 0), |page, k| {
+        turn(page, k, &mut input, &mut buffer)
+    });
 }

@@ -1,59 +1,71 @@
-// Input of the programs that are held against the second one. Many tapes in one input stand each behind its length in four
-// bytes.
+// Input of the programs that are held against the second one: heads of so many bytes, each with what follows it, or tapes, each
+// behind its length in four bytes.
 #![tactic(auto)]
 
-use buffers::number_of;
+use bench_columns::cut;
+use text::{Page, flush, flush_full};
 
-// Where a tape of the input ends: its number of bytes, or that the input ends before it.
-#[derive(Clone, Copy)]
-pub struct Loaded {
-    pub whole: bool,
-    pub last: bool,
-    pub long: usize,
-}
+// The input ends before all is there that it asks for, or asks for what there is not.
+#[derive(Clone, Copy, PartialEq, Eq)]
+pub struct Cut;
 
-// A tape that was taken, or not.
-fn took(whole: bool, last: bool, long: usize) -> Loaded {
-    Loaded { whole, last, long }
-}
-
-// Fills a buffer from standard input, and tells whether there was so much.
-pub fn is_taken(buffer: &mut [u8]) -> bool {
-    io::read_full(0, buffer) == buffer.len()
-}
-
-// Passes over a byte of the input, and tells whether it was there.
-fn skip_one() -> bool {
-    let mut one = [0u8; 1];
-    io::read_full(0, &mut one) != 0
-}
-
-// The same of so many bytes.
-fn skipped(count: usize) -> bool {
-    let mut left = count;
-    while left > 0 {
-        if !skip_one() {
-            return false;
-        }
-        left -= 1;
+// Fills a buffer from standard input.
+pub fn take(buffer: &mut [u8]) -> Result<(), Cut> {
+    if io::read_full(0, buffer) < buffer.len() {
+        return Err(Cut);
     }
-    true
+    Ok(())
 }
 
-// Takes the next tape of standard input into a buffer. A tape too long for it is passed over.
-pub fn take_tape(tape: &mut [u8]) -> Loaded {
-    let mut four = [0u8; 4];
-    let n = io::read_full(0, &mut four);
+// So many bytes of standard input, or nothing where it has ended before them.
+pub fn take_head<const N: usize>() -> Result<Option<[u8; N]>, Cut> {
+    let mut head = [0; N];
+    let n = io::read_full(0, &mut head);
     if n == 0 {
-        return took(true, true, 0);
+        return Ok(None);
     }
-    if n < 4 {
-        return took(false, true, 0);
+    if n < N {
+        return Err(Cut);
     }
-    let long = number_of(four[0], four[1], four[2], four[3]) as usize;
-    if tape.len() < long {
-        return took(skipped(long), false, long);
+    Ok(Some(head))
+}
+
+// Passes over so many bytes of standard input.
+fn pass_over(count: usize) -> Result<(), Cut> {
+    for _ in 0..count {
+        take(&mut [0; 1])?;
     }
-    let got = io::read_full(0, &mut tape[..long]);
-    took(got == long, false, long)
+    Ok(())
+}
+
+// Takes the next tape of standard input into a buffer, and tells its length, or nothing at the end of the input. A tape too long
+// for the buffer is passed over.
+pub fn take_tape(tape: &mut [u8]) -> Result<Option<usize>, Cut> {
+    let Some(four) = take_head()? else {
+        return Ok(None);
+    };
+    let long = u32::from_le_bytes(four) as usize;
+    match tape.get_mut(..long) {
+        Some(whole) => take(whole)?,
+        None => pass_over(long)?,
+    }
+    Ok(Some(long))
+}
+
+// Turns by their number, each putting its line on the page, until one finds the input at its end or cut. A turn tells whether
+// there was something.
+pub fn play<F: FnMut(&mut Page, u64) -> Result<bool, Cut>>(page: &mut Page, mut turn: F)
+    requires { F.IsAlwaysCallable turn }
+{
+    for k in 1..=1000000 {
+        match turn(page, k) {
+            Ok(true) => flush_full(page),
+            Ok(false) => break,
+            Err(Cut) => {
+                cut(page);
+                break;
+            }
+        }
+    }
+    flush(page);
 }

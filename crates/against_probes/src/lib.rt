@@ -3,21 +3,17 @@
 #![tactic(auto)]
 
 use against_columns::call_columns;
+use against_input::Cut;
 use bench_columns::digest_column;
 use buffers::number_of;
 use counts::Counts;
 use image::{IMAGE, put_record, record_of};
 use image_calls::Reply;
-use record::{Answer, Device, Outcome};
-use text::{put, put_bytes};
-
-// The 32 bytes before a probe's image and samples, or that the input ends before them or within them.
-#[derive(Clone, Copy)]
-pub struct Head {
-    pub last: bool,
-    pub whole: bool,
-    pub bytes: [u8; 32],
-}
+use parts::Part;
+use record::Answer;
+use std::fmt;
+use std::fmt::Write;
+use text::{Page, put_bytes};
 
 // The lengths of what is lent. Those of a device identity and of a unique number are for a fresh chip.
 #[derive(Clone, Copy)]
@@ -31,13 +27,30 @@ pub struct Lengths {
     pub unique: usize,
 }
 
-// A call of the device. Over a record: 1 is a transaction, 2 a power cycle, 3 opens a transaction, 4 feeds it, 5 closes it. Over
-// an image the same from 11 on. 21, 22 and 23 are fresh chips of part M, P and M32. `on` is 1 where the probe goes on from the one
-// before it. `seed` is where the contents of what is lent begin, `n` that of a fresh chip.
+// What the device does.
+#[derive(Clone, Copy, PartialEq, Eq)]
+pub enum Step {
+    Transact,
+    PowerCycle,
+    Open,
+    Feed,
+    Close,
+}
+
+// A call of the device, over a record or over an image, or a fresh chip.
+#[derive(Clone, Copy, PartialEq, Eq)]
+pub enum Call {
+    OverRecord(Step),
+    OverImage(Step),
+    Fresh(Part),
+}
+
+// A call of the device. `is_next` says that the probe goes on from the one before it. `seed` is where the contents of what is lent
+// begin, `n` that of a fresh chip.
 #[derive(Clone, Copy)]
 pub struct Probe {
-    pub call: u8,
-    pub on: u8,
+    pub call: Call,
+    pub is_next: bool,
     pub seed: u8,
     pub n: u8,
     pub lengths: Lengths,
@@ -46,36 +59,49 @@ pub struct Probe {
 // What a probe leaves to the next one: how long its image is, and how much of memory and area the first of its sequence filled.
 #[derive(Clone, Copy)]
 pub struct Left {
-    pub any: bool,
     pub image: usize,
     pub memory: usize,
     pub area: usize,
 }
 
-// What is filled before a call.
-#[derive(Clone, Copy)]
-enum Lent {
-    Memory,
-    Area,
-    Output,
+// What is lent for a call.
+#[derive(Drop)]
+pub struct Lent<'a> {
+    pub image: &'a mut [u8],
+    pub memory: &'a mut [u8],
+    pub area: &'a mut [u8],
+    pub samples: &'a mut [u8],
+    pub output: &'a mut [u8],
 }
 
-// What a call is made over.
-#[derive(Clone, Copy)]
-enum Over {
-    Record,
-    Image,
-    Fresh,
-    Nothing,
+// ---- a probe off its bytes
+
+impl TryFrom<u8> for Step {
+    type Error = Cut;
+
+    fn try_from(number: u8) -> Result<Self, Cut> {
+        match number {
+            1 => Ok(Step::Transact),
+            2 => Ok(Step::PowerCycle),
+            3 => Ok(Step::Open),
+            4 => Ok(Step::Feed),
+            5 => Ok(Step::Close),
+            _ => Err(Cut),
+        }
+    }
 }
 
-pub fn take_head() -> Head {
-    let mut bytes = [0u8; 32];
-    let n = io::read_full(0, &mut bytes);
-    Head {
-        last: n == 0,
-        whole: n == 32,
-        bytes,
+// Over a record the steps are numbered from 1 on, over an image from 11 on, and fresh chips are 20 and the number of their part.
+impl TryFrom<u8> for Call {
+    type Error = Cut;
+
+    fn try_from(number: u8) -> Result<Self, Cut> {
+        match number / 10 {
+            0 => Ok(Call::OverRecord(Step::try_from(number)?)),
+            1 => Ok(Call::OverImage(Step::try_from(number - 10)?)),
+            2 => Ok(Call::Fresh(Part::try_from(number - 20).map_err(|_| Cut)?)),
+            _ => Err(Cut),
+        }
     }
 }
 
@@ -91,274 +117,200 @@ fn lengths_of(h: [u8; 32]) -> Lengths {
     }
 }
 
-pub fn probe_of(h: [u8; 32]) -> Probe {
-    Probe {
-        call: h[0],
-        on: h[1],
-        seed: h[2],
-        n: h[3],
-        lengths: lengths_of(h),
+impl TryFrom<[u8; 32]> for Probe {
+    type Error = Cut;
+
+    fn try_from(h: [u8; 32]) -> Result<Self, Cut> {
+        Ok(Probe {
+            call: Call::try_from(h[0])?,
+            is_next: match h[1] {
+                0 => false,
+                1 => true,
+                _ => return Err(Cut),
+            },
+            seed: h[2],
+            n: h[3],
+            lengths: lengths_of(h),
+        })
     }
 }
 
-fn over_of(call: u8) -> Over {
-    match call {
-        1..=5 => Over::Record,
-        11..=15 => Over::Image,
-        21..=23 => Over::Fresh,
-        0 | 6..=10 | 16..=20 | 24..=255 => Over::Nothing,
-    }
-}
+// ---- what is lent
 
-// Nothing to go on from.
-pub fn no_probe() -> Left {
-    Left {
-        any: false,
-        image: 0,
-        memory: 0,
-        area: 0,
-    }
-}
-
-// Whether a probe goes on that has nothing to go on from, that brings an image of its own, or that would be lent more than there
-// is.
-fn is_astray(p: Probe, left: Left) -> bool {
+// What a probe begins with and leaves to the next one: what its lengths say, or what the one before it left. One that goes on has
+// something to go on from, brings no image of its own, and is lent no more than there is.
+pub fn begun(p: Probe, left: Option<Left>) -> Result<Left, Cut> {
     let l = p.lengths;
-    if p.on == 0 {
-        return false;
+    if !p.is_next {
+        return Ok(Left {
+            image: l.image,
+            memory: l.memory,
+            area: l.area,
+        });
     }
-    if p.on != 1 || !left.any {
-        return true;
-    }
-    if l.image != 0 {
-        return true;
-    }
-    left.memory < l.memory || left.area < l.area
+    left.filter(|f| l.image == 0 && l.memory <= f.memory && l.area <= f.area)
+        .ok_or(Cut)
 }
 
-// The length of the image that a probe begins with: its own, or the one that was left.
-pub fn image_of(p: Probe, left: Left) -> usize {
-    let l = p.lengths;
-    if p.on == 1 {
-        return left.image;
-    }
-    l.image
-}
-
-// Whether the bytes of a fresh chip's identities are among the samples.
-fn is_identified(l: Lengths) -> bool {
-    if l.samples < l.device {
-        return false;
-    }
-    l.unique <= l.samples - l.device
-}
-
-// Whether a probe can be called at all.
-pub fn is_called(p: Probe, left: Left) -> bool {
-    let l = p.lengths;
-    if is_astray(p, left) {
-        return false;
-    }
-    match over_of(p.call) {
-        Over::Record => image_of(p, left) == IMAGE,
-        Over::Image => true,
-        Over::Fresh => is_identified(l),
-        Over::Nothing => false,
+impl<'a> Lent<'a> {
+    // As much of it as a probe asks for, where there is so much.
+    pub fn sized(self, image: usize, l: Lengths) -> Result<Lent<'a>, Cut> {
+        Ok(Lent {
+            image: self.image.get_mut(..image).ok_or(Cut)?,
+            memory: self.memory.get_mut(..l.memory).ok_or(Cut)?,
+            area: self.area.get_mut(..l.area).ok_or(Cut)?,
+            samples: self.samples.get_mut(..l.samples).ok_or(Cut)?,
+            output: self.output.get_mut(..l.output).ok_or(Cut)?,
+        })
     }
 }
 
-// What a probe leaves with its call.
-pub fn left_by(p: Probe, left: Left) -> Left {
-    let l = p.lengths;
-    if p.on == 1 {
-        return left;
-    }
-    Left {
-        any: true,
-        image: l.image,
-        memory: l.memory,
-        area: l.area,
+// Each byte by its place.
+fn fill<F: Fn(usize) -> usize>(buffer: &mut [u8], byte: F)
+    requires { F.IsAlwaysCallable byte }
+{
+    for (i, x) in buffer.iter_mut().enumerate() {
+        *x = (byte(i) % 256) as u8;
     }
 }
 
-// Byte i of what is lent. The three differ from each other, and memory from one 256 bytes to the next.
-fn byte_of(what: Lent, seed: u8, i: usize) -> usize {
-    match what {
-        Lent::Memory => seed as usize + i % 256 * 7 + i / 251,
-        Lent::Area => seed as usize + 3 + i % 256 * 5,
-        Lent::Output => seed as usize + 11 + i % 256 * 13,
+// Memory and area of a probe that does not go on, and the output of any. The three differ from each other, and memory from one
+// 256 bytes to the next.
+fn fill_lent(p: Probe, t: &mut Lent) {
+    let seed = p.seed as usize;
+    if !p.is_next {
+        fill(t.memory, |i| seed + i % 256 * 7 + i / 251);
+        fill(t.area, |i| seed + 3 + i % 256 * 5);
     }
+    fill(t.output, |i| seed + 11 + i % 256 * 13);
 }
 
-fn fill(what: Lent, seed: u8, buffer: &mut [u8]) {
-    let mut i: usize = 0;
-    while i < buffer.len() {
-        buffer[i] = (byte_of(what, seed, i) % 256) as u8;
-        i += 1;
-    }
-}
-
-fn on_record(
-    call: u8,
-    d: Device,
-    memory: &mut [u8],
-    area: &mut [u8],
-    samples: &[u8],
-    output: &mut [u8],
-) -> Outcome {
-    match call {
-        1 => device::transact(d, memory, area, samples, output),
-        2 => device::power_cycle(d, memory, area),
-        3 => device::open(d, memory, area),
-        4 => device::feed(d, memory, area, samples, output),
-        _ => device::close(d, memory, area),
-    }
-}
-
-// A reply without clocks.
-fn uncounted(answer: Answer) -> Reply {
-    Reply {
-        answer,
-        counts: Counts::none(),
-    }
-}
-
-// What an outcome replies.
-fn reply_of(o: Outcome) -> Reply {
-    let answer = o.answer;
-    let counts = o.counts;
-    Reply { answer, counts }
-}
+// ---- the call. What is lent is handed on and comes back: the prover has no rule for a field that is looked at while another one
+// of the same loan is written.
 
 // Over the record, whatever it is worth: none of the image's bytes is looked at. The image is then that of the next record.
-fn over_record(
-    call: u8,
-    image: &mut [u8],
-    memory: &mut [u8],
-    area: &mut [u8],
-    samples: &[u8],
-    output: &mut [u8],
-) -> Reply {
-    if image.len() != IMAGE {
-        return uncounted(Answer::State);
-    }
-    let o = on_record(call, record_of(image), memory, area, samples, output);
-    let d = o.device;
-    put_record(d, image);
-    reply_of(o)
-}
-
-fn over_image(
-    call: u8,
-    image: &mut [u8],
-    memory: &mut [u8],
-    area: &mut [u8],
-    samples: &[u8],
-    output: &mut [u8],
-) -> Reply {
-    match call {
-        11 => image_calls::transact(image, memory, area, samples, output),
-        12 => image_calls::power_cycle(image, memory, area),
-        13 => image_calls::open(image, memory, area),
-        14 => image_calls::feed(image, memory, area, samples, output),
-        _ => image_calls::close(image, memory, area),
-    }
-}
-
-// A fresh chip with these identities.
-fn made(call: u8, n: u8, device: &[u8], unique: &[u8], image: &mut [u8]) -> Answer {
-    match call {
-        21 => image_calls::fresh_m(n, device, unique, image),
-        22 => image_calls::fresh_p(n, device, image),
-        _ => image_calls::fresh_m32(n, device, unique, image),
-    }
-}
-
-// The same with the identities that stand at the front of the samples.
-fn fresh(p: Probe, samples: &[u8], image: &mut [u8]) -> Reply {
-    let l = p.lengths;
-    let device = l.device;
-    let unique = l.unique;
-    if samples.len() < device {
-        return uncounted(Answer::State);
-    }
-    if samples.len() - device < unique {
-        return uncounted(Answer::State);
-    }
-    let v = made(
-        p.call,
-        p.n,
-        &samples[..device],
-        &samples[device..device + unique],
+fn over_record<'a>(s: Step, t: Lent<'a>) -> Result<(Reply, Lent<'a>), Cut> {
+    let Lent {
         image,
-    );
-    uncounted(v)
+        memory,
+        area,
+        samples,
+        output,
+    } = t;
+    if image.len() != IMAGE {
+        return Err(Cut);
+    }
+    let d = record_of(image);
+    let o = match s {
+        Step::Transact => device::transact(d, memory, area, samples, output),
+        Step::PowerCycle => device::power_cycle(d, memory, area),
+        Step::Open => device::open(d, memory, area),
+        Step::Feed => device::feed(d, memory, area, samples, output),
+        Step::Close => device::close(d, memory, area),
+    };
+    put_record(o.device, image);
+    let reply = Reply {
+        answer: o.answer,
+        counts: o.counts,
+    };
+    Ok((
+        reply,
+        Lent {
+            image,
+            memory,
+            area,
+            samples,
+            output,
+        },
+    ))
 }
 
-fn call(
-    p: Probe,
-    image: &mut [u8],
-    memory: &mut [u8],
-    area: &mut [u8],
-    samples: &[u8],
-    output: &mut [u8],
-) -> Reply {
-    match over_of(p.call) {
-        Over::Record => over_record(p.call, image, memory, area, samples, output),
-        Over::Image => over_image(p.call, image, memory, area, samples, output),
-        Over::Fresh => fresh(p, samples, image),
-        Over::Nothing => uncounted(Answer::State),
+fn over_image<'a>(s: Step, t: Lent<'a>) -> (Reply, Lent<'a>) {
+    let Lent {
+        image,
+        memory,
+        area,
+        samples,
+        output,
+    } = t;
+    let reply = match s {
+        Step::Transact => image_calls::transact(image, memory, area, samples, output),
+        Step::PowerCycle => image_calls::power_cycle(image, memory, area),
+        Step::Open => image_calls::open(image, memory, area),
+        Step::Feed => image_calls::feed(image, memory, area, samples, output),
+        Step::Close => image_calls::close(image, memory, area),
+    };
+    (
+        reply,
+        Lent {
+            image,
+            memory,
+            area,
+            samples,
+            output,
+        },
+    )
+}
+
+// A fresh chip, with the identities that stand at the front of the samples.
+fn fresh<'a>(part: Part, p: Probe, t: Lent<'a>) -> Result<(Reply, Lent<'a>), Cut> {
+    let Lent {
+        image,
+        memory,
+        area,
+        samples,
+        output,
+    } = t;
+    let (device, rest) = samples.split_at_checked(p.lengths.device).ok_or(Cut)?;
+    let unique = rest.get(..p.lengths.unique).ok_or(Cut)?;
+    let made = match part {
+        Part::M => image_calls::fresh_m(p.n, device, unique, image),
+        Part::P => image_calls::fresh_p(p.n, device, image),
+        Part::M32 => image_calls::fresh_m32(p.n, device, unique, image),
+    };
+    let reply = Reply {
+        answer: made.err().unwrap_or(Answer::Done),
+        counts: Counts::none(),
+    };
+    Ok((
+        reply,
+        Lent {
+            image,
+            memory,
+            area,
+            samples,
+            output,
+        },
+    ))
+}
+
+// A call on what is filled, or on what was left. There is none over a record whose image has another length, and no fresh chip
+// whose identities are not among the samples.
+pub fn called<'a>(p: Probe, mut t: Lent<'a>) -> Result<(Reply, Lent<'a>), Cut> {
+    fill_lent(p, &mut t);
+    match p.call {
+        Call::OverRecord(s) => over_record(s, t),
+        Call::OverImage(s) => Ok(over_image(s, t)),
+        Call::Fresh(part) => fresh(part, p, t),
     }
 }
+
+// ---- its line
 
 // All bytes of the image, or a dash.
-fn image_column(text: &mut [u8], at: usize, image: &[u8]) -> usize {
-    let a = put(text, at, b' ');
-    if image.len() == 0 {
-        return put(text, a, b'-');
+fn image_column(page: &mut Page, image: &[u8]) -> fmt::Result {
+    if image.is_empty() {
+        return write!(page, " -");
     }
-    put_bytes(text, a, image)
+    page.put(b' ');
+    put_bytes(page, image)
 }
 
-pub fn put_line(
-    text: &mut [u8],
-    at: usize,
-    k: u64,
-    r: Reply,
-    image: &[u8],
-    memory: &[u8],
-    area: &[u8],
-    output: &[u8],
-) -> usize {
-    let answer = r.answer;
-    let counts = r.counts;
-    let a = call_columns(text, at, k, answer, counts);
-    let b = image_column(text, a, image);
-    let c = digest_column(text, b, memory);
-    let d = digest_column(text, c, area);
-    let e = digest_column(text, d, output);
-    put(text, e, b'\n')
-}
-
-// Memory and area of a probe that does not go on.
-fn fill_stores(p: Probe, memory: &mut [u8], area: &mut [u8]) {
-    let seed = p.seed;
-    if p.on != 1 {
-        fill(Lent::Memory, seed, memory);
-        fill(Lent::Area, seed, area);
-    }
-}
-
-// A call on what is filled, or on what was left.
-pub fn called(
-    p: Probe,
-    image: &mut [u8],
-    memory: &mut [u8],
-    area: &mut [u8],
-    samples: &[u8],
-    output: &mut [u8],
-) -> Reply {
-    fill_stores(p, memory, area);
-    fill(Lent::Output, p.seed, output);
-    call(p, image, memory, area, samples, output)
+pub fn put_line(page: &mut Page, k: u64, r: Reply, t: &Lent) -> fmt::Result {
+    call_columns(page, k, r.answer, r.counts)?;
+    image_column(page, t.image)?;
+    digest_column(page, t.memory)?;
+    digest_column(page, t.area)?;
+    digest_column(page, t.output)?;
+    writeln!(page)
 }

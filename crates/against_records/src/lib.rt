@@ -1,172 +1,93 @@
-// One record of a tape, played and printed for the comparison: the line with all that it left.
+// The records of a tape, played and printed for the comparison: of each the line with all that it left.
 #![tactic(auto)]
 
 use against_columns::{call_columns, chip, output_columns};
 use bench_columns::{digest_column, fill};
 use bench_lines::{last_line, verdict};
 use record::{Answer, Outcome};
-use tape::{Entry, MOST_SAMPLES};
-use tape_session::Session;
-use text::{put, put_all};
+use std::fmt;
+use std::fmt::Write;
+use tape::{Entry, MOST_SAMPLES, Socket};
+use tape_reader::Reader;
+use tape_session::Turn;
+use text::Page;
 
 // The bytes of output past the samples, which a call is to leave alone.
 pub const SPARE: usize = 3;
 
-#[derive(Clone, Copy)]
-pub struct State {
-    pub session: Session,
-    pub place: usize,
-    pub go: bool,
-}
+// Every record takes four bytes of the tape or more, so that there are no more turns than these.
+const TURNS: u64 = 16385;
 
-fn output_of(
-    text: &mut [u8],
-    at: usize,
-    e: Entry,
-    answer: Answer,
-    long: usize,
-    out: &[u8],
-) -> usize {
+fn output_of(page: &mut Page, e: Entry, answer: Answer, long: usize, out: &[u8]) -> fmt::Result {
     match e {
-        Entry::End => at,
-        Entry::Bad(_) => at,
-        Entry::Transaction => output_columns(text, at, answer, long, out),
-        Entry::PowerCycle => put_all(text, at, b" - - -"),
-        Entry::Fresh(_) => put_all(text, at, b" - - -"),
+        Entry::Transaction => output_columns(page, answer, long, out),
+        Entry::PowerCycle | Entry::Fresh(_) => page.write_str(" - - -"),
     }
 }
 
-fn line(text: &mut [u8], at: usize, k: u64, r: Outcome) -> usize {
-    let d = r.device;
-    let answer = r.answer;
-    let counts = r.counts;
-    let a = call_columns(text, at, k, answer, counts);
-    chip(text, a, d)
+fn outcome(page: &mut Page, k: u64, o: Outcome) -> fmt::Result {
+    call_columns(page, k, o.answer, o.counts)?;
+    chip(page, o.device)
 }
 
 // Digests of the chip's part of memory and area.
-fn stores(text: &mut [u8], at: usize, s: Session, memory: &[u8], area: &[u8]) -> usize {
-    let memory_size = s.socket.memory;
-    let area_size = s.socket.area;
-    let size = memory_size.in_bytes();
-    let edge = area_size.in_bytes();
-    if memory.len() < size {
-        return at;
+fn stores(page: &mut Page, s: Socket, memory: &[u8], area: &[u8]) -> fmt::Result {
+    let size = s.memory.in_bytes();
+    let edge = s.area.in_bytes();
+    if memory.len() < size || area.len() < edge {
+        return Ok(());
     }
-    if area.len() < edge {
-        return at;
-    }
-    let a = digest_column(text, at, &memory[..size]);
-    digest_column(text, a, &area[..edge])
+    digest_column(page, &memory[..size])?;
+    digest_column(page, &area[..edge])
 }
 
-// The samples of the record at a place.
-fn samples_at(tape: &[u8], at: usize) -> usize {
-    let f = tape_reader::found_at(tape, at);
-    if f.next < f.from {
-        return 0;
-    }
-    f.next - f.from
-}
-
-fn record_line(
-    text: &mut [u8],
-    at: usize,
+fn line(
+    page: &mut Page,
     k: u64,
-    t: tape_session::Turn,
+    t: Turn,
     long: usize,
     memory: &[u8],
     area: &[u8],
     out: &[u8],
-) -> usize {
-    let e = t.entry;
-    let r = t.outcome;
-    let next = t.session;
-    let a = line(text, at, k, r);
-    let b = stores(text, a, next, memory, area);
-    let answer = r.answer;
-    let c = output_of(text, b, e, answer, long, out);
-    put(text, c, b'\n')
+) -> fmt::Result {
+    outcome(page, k, t.outcome)?;
+    stores(page, t.chip.socket, memory, area)?;
+    output_of(page, t.entry, t.outcome.answer, long, out)?;
+    writeln!(page)
 }
 
-// Record k, with so many before it; its output is as long as it is to be lent.
-fn played(
-    st: State,
-    before: u64,
-    k: u64,
-    long: usize,
+// Every record, to the end or to one that is bad. A payload longer than any transaction has is a bad record; the output that is
+// lent for any other is longer than its samples.
+pub fn put_turns(
+    page: &mut Page,
     tape: &[u8],
     memory: &mut [u8],
     area: &mut [u8],
     output: &mut [u8],
-    text: &mut [u8],
-) -> State {
-    let s = st.session;
-    fill(output);
-    let t = tape_session::advance(s, tape, memory, area, output);
-    let e = t.entry;
-    let next = t.session;
-    if !t.good {
-        return stopped(next, verdict(text, st.place, e, before, s.at));
+) -> fmt::Result {
+    let mut session = tape_session::start();
+    for before in 0..TURNS {
+        let long = Reader::opened(tape, session.at).payload().len();
+        if MOST_SAMPLES < long {
+            last_line(page, b"bad", session.at as u64);
+            break;
+        }
+        let Some(out) = output.get_mut(..long + SPARE) else {
+            break;
+        };
+        fill(out);
+        match tape_session::advance(session, tape, memory, area, out) {
+            Ok(turn) => {
+                line(page, before + 1, turn, long, memory, area, out)?;
+                text::flush_full(page);
+                session = turn.session;
+            }
+            Err(why) => {
+                verdict(page, why, before, session.at);
+                break;
+            }
+        }
     }
-    let place = record_line(text, st.place, k, t, long, memory, area, output);
-    State {
-        session: next,
-        place: text::flush_full(text, place),
-        go: true,
-    }
-}
-
-// The same with an output that is longer than the samples.
-pub fn turn(
-    st: State,
-    before: u64,
-    k: u64,
-    tape: &[u8],
-    memory: &mut [u8],
-    area: &mut [u8],
-    output: &mut [u8],
-    text: &mut [u8],
-) -> State {
-    let s = st.session;
-    let long = samples_at(tape, s.at);
-    if MOST_SAMPLES < long {
-        return stopped(s, verdict_bad(text, st.place, s.at));
-    }
-    let room = long + SPARE;
-    if output.len() < room {
-        return stopped(s, st.place);
-    }
-    played(
-        st,
-        before,
-        k,
-        long,
-        tape,
-        memory,
-        area,
-        &mut output[..room],
-        text,
-    )
-}
-
-// A payload longer than any transaction has is a bad record.
-fn verdict_bad(text: &mut [u8], at: usize, offset: usize) -> usize {
-    last_line(text, at, b"bad", offset as u64)
-}
-
-fn stopped(session: Session, place: usize) -> State {
-    State {
-        session,
-        place,
-        go: false,
-    }
-}
-
-pub fn started(place: usize) -> State {
-    State {
-        session: tape_session::start(),
-        place,
-        go: true,
-    }
+    text::flush_full(page);
+    Ok(())
 }

@@ -2,17 +2,13 @@
 #![tactic(auto)]
 
 use bench_play::{play, too_long};
+use tape_input::NoTape;
 
 fn main(rt: HostRuntime) {
-    let fd = tape_input::opened(&rt);
-    if fd < 0 {
-        return;
+    let mut buffer = io::large_buffer();
+    match tape_input::taken(&rt, &mut buffer) {
+        Ok(tape) => play(tape),
+        Err(NoTape::TooLong) => too_long(),
+        Err(NoTape::Unopened) => {}
     }
-    let mut tape = io::large_buffer();
-    let n = io::read_full(fd, &mut tape);
-    if tape_input::has_more(fd) {
-        too_long();
-        return;
-    }
-    play(&tape[..n]);
 }

@@ -2,85 +2,69 @@
 #![tactic(auto)]
 
 ghost use Rattle.std.specs.Prelude.{◌≡◌};
-ghost use Rattle.buffers.specs.Page.{page, puts_of};
+ghost use Rattle.buffers.specs.Page.{puts_of};
+ghost use Rattle.buffers.specs.Shown.{shown};
 ghost use Rattle.bench_columns.specs.Columns.{column_of, five_of};
 
 use counts::Counts;
-use text::{put, put_all, put_decimal, put_hex};
+use std::fmt;
+use std::fmt::Write;
+use text::{Page, put_decimal};
 use units::Clocks;
 
 // A number behind a space.
-pub fn column(text: &mut [u8], at: usize, v: u64) -> usize
-    ensures { page result text.new ≡ puts_of (column_of v) (page at text.old) }
+pub fn column(page: &mut Page, v: u64)
+    ensures same_buffer { page.new.bytes.ghost_name ≡ page.old.bytes.ghost_name }
+    ensures put { shown page.new ≡ puts_of (column_of v) (shown page.old) }
 {
-    let a = put(text, at, b' ');
-    put_decimal(text, a, v)
+    page.put(b' ');
+    put_decimal(page, v);
 }
 
 // A number of clocks.
-fn clocks_column(text: &mut [u8], at: usize, c: Clocks) -> usize
-    ensures { page result text.new ≡ puts_of (column_of c.0) (page at text.old) }
+fn clocks_column(page: &mut Page, c: Clocks)
+    ensures same_buffer { page.new.bytes.ghost_name ≡ page.old.bytes.ghost_name }
+    ensures put { shown page.new ≡ puts_of (column_of c.0) (shown page.old) }
 {
-    column(text, at, c.in_clocks() as u64)
+    column(page, c.in_clocks() as u64);
 }
 
 // The five counts, in the papers' order.
-pub fn five(text: &mut [u8], at: usize, c: Counts) -> usize
-    ensures { page result text.new ≡ puts_of (five_of c) (page at text.old) }
+pub fn five(page: &mut Page, c: Counts)
+    ensures same_buffer { page.new.bytes.ghost_name ≡ page.old.bytes.ghost_name }
+    ensures put { shown page.new ≡ puts_of (five_of c) (shown page.old) }
 {
-    let a = clocks_column(text, at, c.command);
-    let b = clocks_column(text, a, c.address);
-    let d = clocks_column(text, b, c.wait);
-    let e = clocks_column(text, d, c.body);
-    clocks_column(text, e, c.rest)
+    clocks_column(page, c.command);
+    clocks_column(page, c.address);
+    clocks_column(page, c.wait);
+    clocks_column(page, c.body);
+    clocks_column(page, c.rest);
 }
 
 // A number in which order and length of the bytes both count.
 fn digest(bytes: &[u8]) -> u64 {
-    let mut sum: u64 = 1;
-    let mut i = 0;
-    while i < bytes.len() {
-        sum = (sum % 4294967291 * 65599 + bytes[i] as u64 + 1) % 4294967291;
-        i += 1;
-    }
-    sum
+    bytes.iter().fold(1, |sum, b| {
+        (sum % 4294967291 * 65599 + u64::from(*b) + 1) % 4294967291
+    })
 }
 
 // The digest of bytes, behind a space.
-pub fn digest_column(text: &mut [u8], at: usize, bytes: &[u8]) -> usize {
-    let a = put(text, at, b' ');
-    put_hex(text, a, digest(bytes), 8)
+pub fn digest_column(page: &mut Page, bytes: &[u8]) -> fmt::Result {
+    write!(page, " {:08X}", digest(bytes))
+}
+
+// A buffer of any length. It comes out of a function, so that a proof has its length from its type: where a large array is
+// written out, the prover follows it element by element and gives up.
+pub fn room<const N: usize>() -> [u8; N] {
+    [0; N]
 }
 
 // A buffer that shows what is written to it later.
 pub fn fill(out: &mut [u8]) {
-    let mut i = 0;
-    while i < out.len() {
-        out[i] = 0xA5;
-        i += 1;
-    }
-}
-
-// The place on the page, and whether to go on.
-#[derive(Clone, Copy)]
-pub struct Printed {
-    pub place: usize,
-    pub go: bool,
-}
-
-pub fn stopped(place: usize) -> Printed {
-    Printed { place, go: false }
+    out.fill(0xA5);
 }
 
 // The input ends too early.
-pub fn cut(text: &mut [u8], at: usize) -> Printed {
-    stopped(put_all(text, at, b"cut\n"))
-}
-
-// A line is done.
-pub fn going(text: &[u8], place: usize) -> Printed {
-    Printed {
-        place: text::flush_full(text, place),
-        go: true,
-    }
+pub fn cut(page: &mut Page) {
+    page.put_all(b"cut\n");
 }

@@ -3,8 +3,8 @@
 use Rattle.std.specs.Prelude.{List, [], ◌∷◌, ◌++◌, ℕ}
 use Rattle.record.specs.declared.devices.Outcome.{Outcome}
 use Rattle.record.specs.Answers.{answer_number}
-use Rattle.tape.specs.declared.Entry.{Entry}
-use Rattle.tape.specs.declared.Entry.TheVariants.{End, Bad, Transaction, PowerCycle, Fresh}
+use Rattle.tape_session.specs.declared.Stop.{Stop}
+use Rattle.tape_session.specs.declared.Stop.TheVariants.{End, Bad, Unready}
 use Rattle.text.specs.Decimal.{decimal_of}
 use Rattle.bench_columns.specs.Columns.{column_of, five_of}
 
@@ -36,9 +36,7 @@ unfoldable pub last_line_of : List ℕ → ℕ → List ℕ
 last_line_of word v = word ++ (column_of v ++ (10 ∷ []))
 
 -- THE LAST LINE: the end of the tape after so many records, or a record that cannot be played, at its offset
-abbrev pub verdict_of : Entry → ℕ → ℕ → List ℕ
+abbrev pub verdict_of : Stop → ℕ → ℕ → List ℕ
 verdict_of End before offset = last_line_of end_word before
-verdict_of (Bad f) before offset = last_line_of bad_word offset
-verdict_of Transaction before offset = last_line_of bad_word offset
-verdict_of PowerCycle before offset = last_line_of bad_word offset
-verdict_of (Fresh m) before offset = last_line_of bad_word offset
+verdict_of (Bad fault) before offset = last_line_of bad_word offset
+verdict_of (Unready e) before offset = last_line_of bad_word offset

@@ -4,66 +4,27 @@
 use bench_lines::{header, last_line, line, verdict};
 use parts::LARGEST_AREA;
 use tape::LARGEST_MEMORY;
-use tape_session::Session;
-
-// What goes from record to record: the session, the place in the text, and whether to go on.
-#[derive(Clone, Copy)]
-struct State {
-    session: Session,
-    place: usize,
-    go: bool,
-}
-
-// Record k, with so many before it.
-fn turn(
-    st: State,
-    before: u64,
-    k: u64,
-    tape: &[u8],
-    memory: &mut [u8],
-    area: &mut [u8],
-    output: &mut [u8],
-    text: &mut [u8],
-) -> State {
-    let s = st.session;
-    let t = tape_session::advance(s, tape, memory, area, output);
-    let e = t.entry;
-    let outcome = t.outcome;
-    let next = t.session;
-    if !t.good {
-        let place = verdict(text, st.place, e, before, s.at);
-        return State {
-            session: next,
-            place,
-            go: false,
-        };
-    }
-    let place = line(text, st.place, k, outcome);
-    State {
-        session: next,
-        place: text::flush_full(text, place),
-        go: true,
-    }
-}
-
-fn start(place: usize) -> State {
-    State {
-        session: tape_session::start(),
-        place,
-        go: true,
-    }
-}
+use text::Page;
 
 // Every record takes four bytes of the tape or more, so that there are no more turns than these.
-fn run(tape: &[u8], memory: &mut [u8], area: &mut [u8], output: &mut [u8], text: &mut [u8]) {
-    let mut st = start(header(text));
-    let mut k = 0;
-    while k < 16385 && st.go {
-        let before = k;
-        k += 1;
-        st = turn(st, before, k, tape, memory, area, output, text);
+const TURNS: u64 = 16385;
+
+// Every record, to the end or to one that is bad.
+fn run(tape: &[u8], memory: &mut [u8], area: &mut [u8], output: &mut [u8], page: &mut Page) {
+    let mut session = tape_session::start();
+    for before in 0..TURNS {
+        match tape_session::advance(session, tape, memory, area, output) {
+            Ok(turn) => {
+                line(page, before + 1, turn.outcome);
+                text::flush_full(page);
+                session = turn.session;
+            }
+            Err(why) => {
+                verdict(page, why, before, session.at);
+                break;
+            }
+        }
     }
-    text::flush(text, st.place);
 }
 
 // Plays a tape and prints its lines.
@@ -71,14 +32,18 @@ pub fn play(tape: &[u8]) {
     let mut memory = [0u8; LARGEST_MEMORY];
     let mut area = [0u8; LARGEST_AREA];
     let mut output = io::buffer();
-    let mut text = io::large_buffer();
-    run(tape, &mut memory, &mut area, &mut output, &mut text);
+    let mut room = io::large_buffer();
+    let mut page = Page::begun(&mut room, 0);
+    header(&mut page);
+    run(tape, &mut memory, &mut area, &mut output, &mut page);
+    text::flush(&mut page);
 }
 
 // The lines of a tape that is longer than a tape may be.
 pub fn too_long() {
-    let mut text = io::buffer();
-    let a = header(&mut text);
-    let b = last_line(&mut text, a, b"bad", 0);
-    text::flush(&text, b);
+    let mut room = io::buffer();
+    let mut page = Page::begun(&mut room, 0);
+    header(&mut page);
+    last_line(&mut page, b"bad", 0);
+    text::flush(&mut page);
 }

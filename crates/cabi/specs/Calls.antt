@@ -1,7 +1,7 @@
 -- The calls over an image as C sees them: the answer as the papers' number, the counts in lent words.
-use Rattle.std.specs.Prelude.{ℕ, cond, List, []}
+use Rattle.std.specs.Prelude.{ℕ, cond, List, [], Result, Ok, Err}
 use Rattle.record.specs.declared.answers.Answer.{Answer}
-use Rattle.record.specs.declared.answers.Answer.TheVariants.{Size, State}
+use Rattle.record.specs.declared.answers.Answer.TheVariants.{Done, Size, State}
 use Rattle.record.specs.Answers.{answer_number}
 use Rattle.paper.specs.Storing.{Lent}
 use Rattle.contract_words.specs.Words.{lends}
@@ -12,6 +12,11 @@ use Rattle.image_calls.specs.Fresh.{Made, fresh_m_in, fresh_m32_in, fresh_p_in}
 use Rattle.words.specs.Words.{has_counts, counts_over}
 
 -- ---- fresh chips
+-- the answer of a result: 0 of what was done, and otherwise the one that refuses
+abbrev pub answer_in : {U : Type 0} → Result U Answer → Answer
+answer_in (Ok u) = Done
+answer_in (Err v) = v
+
 pub record Numbered : Type 0 where
   pub answer : ℕ
   pub image : List ℕ

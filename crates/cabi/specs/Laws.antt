@@ -1,9 +1,10 @@
 -- Laws of the calls: each way through a call is one of its definition.
 -- Assumes nothing.
-use Rattle.std.specs.Prelude.{◌≡◌, ℕ, List, [], length}
+use Rattle.std.specs.Prelude.{◌≡◌, ℕ, List, [], length, Result, Ok, Err}
 use Rattle.std.proofs.Common.{ap, ◌∙◌, eq-eqb, ne_eqb}
 use Rattle.units.specs.declared.Clocks.{Clocks}
 use Rattle.units.specs.declared.Bytes.{Bytes}
+use Rattle.record.specs.declared.answers.Answer.{Answer}
 use Rattle.record.specs.Answers.{answer_number}
 use Rattle.paper.specs.Storing.{Lent}
 use Rattle.paper.specs.Building.{Order, Told, build_of}
@@ -11,9 +12,15 @@ use Rattle.paper.specs.Collecting.{collect_of}
 use Rattle.contract_words.specs.Words.{lends}
 use Rattle.image_calls.specs.declared.Reply.{Reply}
 use Rattle.image_calls.specs.Calls.{Imaged, imaged_as}
+use Rattle.image_calls.specs.Fresh.{Made, made_in}
 use Rattle.words.specs.Words.{counts_over, number_over}
-use Rattle.cabi.specs.Calls.{Call, call_as, in_words, counted, unroomed_number, numbered}
+use Rattle.cabi.specs.Calls.{Call, answer_in, numbered_as, made_from, call_as, in_words, counted, unroomed_number, numbered}
 use Rattle.cabi.specs.Fills.{filled_as, build_in, gather_in}
+
+-- ---- fresh chips
+pub made_told : {v : ℕ} (r : Result (Unit {0}) Answer) (image : List ℕ) {m : Made} → v ≡ answer_number (answer_in r) → made_in r image ≡ m → numbered_as v image ≡ made_from m
+made_told (Ok u) image e f = rw e (ap made_from f)
+made_told (Err v) image e f = rw e (ap made_from f)
 
 -- ---- the device
 -- a reply, told without words for counts

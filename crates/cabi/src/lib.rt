@@ -4,27 +4,35 @@
 
 ghost use Rattle.std.specs.Prelude.{◌≡◌, []};
 ghost use Rattle.units.specs.Units.{bytes};
+ghost use Rattle.record.specs.Answers.{answer_number};
+ghost use Rattle.words.specs.Words.{number_over};
 ghost use Rattle.contract_words.specs.Words.{lends};
-ghost use Rattle.cabi.specs.Calls.{numbered_as, numbered, call_as, unroomed_number, fresh_m_from, fresh_m32_from, fresh_p_from, transact_from, power_from, open_from, feed_from, close_from};
+ghost use Rattle.cabi.specs.Calls.{answer_in, numbered_as, numbered, call_as, unroomed_number, fresh_m_from, fresh_m32_from, fresh_p_from, transact_from, power_from, open_from, feed_from, close_from};
 ghost use Rattle.cabi.specs.Fills.{filled_as, order_in, build_in, gather_in};
 
 use host_order::Order;
 use image_calls::Reply;
 use image_check::is_accepted;
+use record::Answer;
 use units::Bytes;
 use words::{COUNTS, NUMBER, put_counts, put_number};
 
-// What a call without its words answers: 1, or 3 where the bytes are no image.
-const SIZE: u8 = 1;
-
-const STATE: u8 = 3;
+// The number of what a call is answered that leaves no more than its buffer.
+fn number_of(r: Result<(), Answer>) -> u8
+    ensures { result ≡ answer_number (answer_in r) }
+{
+    match r {
+        Ok(()) => u8::from(Answer::Done),
+        Err(v) => u8::from(v),
+    }
+}
 
 // A fresh chip of part M.
 #[unsafe(no_mangle)]
 pub extern "C" fn tondravik_fresh_m(n: u8, device: &[u8], unique: &[u8], image: &mut [u8]) -> u8
     ensures { numbered_as result image.new ≡ fresh_m_from n device.now unique.now image.old }
 {
-    u8::from(image_calls::fresh_m(n, device, unique, image))
+    number_of(image_calls::fresh_m(n, device, unique, image))
 }
 
 // A fresh chip of part M32.
@@ -32,7 +40,7 @@ pub extern "C" fn tondravik_fresh_m(n: u8, device: &[u8], unique: &[u8], image: 
 pub extern "C" fn tondravik_fresh_m32(n: u8, device: &[u8], unique: &[u8], image: &mut [u8]) -> u8
     ensures { numbered_as result image.new ≡ fresh_m32_from n device.now unique.now image.old }
 {
-    u8::from(image_calls::fresh_m32(n, device, unique, image))
+    number_of(image_calls::fresh_m32(n, device, unique, image))
 }
 
 // A fresh chip of part P.
@@ -40,27 +48,27 @@ pub extern "C" fn tondravik_fresh_m32(n: u8, device: &[u8], unique: &[u8], image
 pub extern "C" fn tondravik_fresh_p(n: u8, device: &[u8], image: &mut [u8]) -> u8
     ensures { numbered_as result image.new ≡ fresh_p_from n device.now image.old }
 {
-    u8::from(image_calls::fresh_p(n, device, image))
+    number_of(image_calls::fresh_p(n, device, image))
 }
 
 // The answer of a call that has not the words for its counts: 3 comes first here too.
+#[tactic(auto, unfolding(crate::specs::Calls::unroomed_number))]
 fn unroomed(image: &[u8]) -> u8
     ensures { result ≡ unroomed_number image.now }
 {
     if is_accepted(image) {
-        return SIZE;
+        u8::from(Answer::Size)
+    } else {
+        u8::from(Answer::State)
     }
-    STATE
 }
 
 // A reply in words: the counts, where they have room, and the answer.
 fn tell(r: Reply, counts: &mut [usize]) -> u8
     ensures { call_as result [] [] [] [] counts.new ≡ numbered r counts.old }
 {
-    let c = r.counts;
-    let v = r.answer;
-    put_counts(c, counts);
-    u8::from(v)
+    put_counts(r.counts, counts);
+    u8::from(r.answer)
 }
 
 // A transaction.
@@ -78,8 +86,10 @@ pub extern "C" fn tondravik_transact(
     if counts.len() != COUNTS {
         return unroomed(image);
     }
-    let r = image_calls::transact(image, memory, area, samples, output);
-    tell(r, counts)
+    tell(
+        image_calls::transact(image, memory, area, samples, output),
+        counts,
+    )
 }
 
 // A power cycle. No clock is counted, and no words are lent for counts.
@@ -87,9 +97,7 @@ pub extern "C" fn tondravik_transact(
 pub extern "C" fn tondravik_power_cycle(image: &mut [u8], memory: &mut [u8], area: &[u8]) -> u8
     ensures { call_as result image.new memory.new area.now [] [] ≡ power_from image.old (lends memory.old area.now) }
 {
-    let r = image_calls::power_cycle(image, memory, area);
-    let v = r.answer;
-    u8::from(v)
+    u8::from(image_calls::power_cycle(image, memory, area).answer)
 }
 
 // Select goes low. No clock is counted.
@@ -97,9 +105,7 @@ pub extern "C" fn tondravik_power_cycle(image: &mut [u8], memory: &mut [u8], are
 pub extern "C" fn tondravik_open(image: &mut [u8], memory: &[u8], area: &[u8]) -> u8
     ensures { call_as result image.new memory.now area.now [] [] ≡ open_from image.old (lends memory.now area.now) }
 {
-    let r = image_calls::open(image, memory, area);
-    let v = r.answer;
-    u8::from(v)
+    u8::from(image_calls::open(image, memory, area).answer)
 }
 
 // The next clocks of the open transaction. They are counted when it is closed.
@@ -113,9 +119,7 @@ pub extern "C" fn tondravik_feed(
 ) -> u8
     ensures { call_as result image.new memory.new area.new output.new [] ≡ feed_from image.old (lends memory.old area.old) samples.now output.old }
 {
-    let r = image_calls::feed(image, memory, area, samples, output);
-    let v = r.answer;
-    u8::from(v)
+    u8::from(image_calls::feed(image, memory, area, samples, output).answer)
 }
 
 // Select goes high: the answer and the counts of all clocks since select went low.
@@ -131,8 +135,16 @@ pub extern "C" fn tondravik_close(
     if counts.len() != COUNTS {
         return unroomed(image);
     }
-    let r = image_calls::close(image, memory, area);
-    tell(r, counts)
+    tell(image_calls::close(image, memory, area), counts)
+}
+
+// What the host half tells: how much was put into the buffer, in the lent word, and the answer.
+fn fill(v: Answer, n: usize, number: &mut [usize]) -> u8
+    ensures answer { result ≡ answer_number v }
+    ensures number { number.new ≡ number_over n number.old }
+{
+    put_number(n, number);
+    u8::from(v)
 }
 
 // The samples of a command, and how many clocks they are.
@@ -151,7 +163,7 @@ pub extern "C" fn tondravik_build(
     ensures { filled_as result samples.new clocks.new ≡ build_in (order_in part opcode mode address cr2 (bytes wanted) written.now) samples.old clocks.old }
 {
     if clocks.len() != NUMBER {
-        return SIZE;
+        return u8::from(Answer::Size);
     }
     let o = Order {
         part,
@@ -161,11 +173,10 @@ pub extern "C" fn tondravik_build(
         cr2,
         wanted: Bytes::stated(wanted),
     };
-    let b = host::build(o, written, samples);
-    let n = b.clocks;
-    put_number(n.in_clocks(), clocks);
-    let v = b.answer;
-    u8::from(v)
+    match host::build(o, written, samples) {
+        Ok(n) => fill(Answer::Done, n.in_clocks(), clocks),
+        Err(v) => fill(v, 0, clocks),
+    }
 }
 
 // The bytes of what the device drove on so many wires, and how many they are.
@@ -179,11 +190,10 @@ pub extern "C" fn tondravik_gather(
     ensures { filled_as result bytes.new number.new ≡ gather_in wires driven.now bytes.old number.old }
 {
     if number.len() != NUMBER {
-        return SIZE;
+        return u8::from(Answer::Size);
     }
-    let g = host::gather(wires, driven, bytes);
-    let n = g.bytes;
-    put_number(n.in_bytes(), number);
-    let v = g.answer;
-    u8::from(v)
+    match host::gather(wires, driven, bytes) {
+        Ok(n) => fill(Answer::Done, n.in_bytes(), number),
+        Err(v) => fill(v, 0, number),
+    }
 }

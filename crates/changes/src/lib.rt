@@ -34,40 +34,25 @@ fn written(mut d: Device, r: Register, value: [u8; 8]) -> Device
     ensures { result ≡ written_to r value d }
 {
     match r {
-        Register::Status => {
-            let v = without_latch(value[0]);
-            d.registers.status = v;
-            d
-        }
-        Register::AreaProtection => {
-            d.registers.protection = value[0];
-            d
-        }
-        Register::Configuration1 => d,
-        Register::Configuration2 => d,
-        Register::Configuration3 => d,
-        Register::Configuration4 => d,
+        Register::Status => d.registers.status = without_latch(value[0]),
+        Register::AreaProtection => d.registers.protection = value[0],
         Register::Configurations => {
             d.registers.cr1 = value[0];
             d.registers.cr2 = value[1];
             d.registers.cr3 = value[2];
             d.registers.cr4 = value[3];
-            d
         }
-        Register::Identity => d,
-        Register::Unique => d,
-        Register::Serial => {
-            let mut id = d.identity;
-            id.serial = value;
-            d.identity = id;
-            d
-        }
-        Register::ModeRegister => {
-            d.registers.mr0 = value[0];
-            d
-        }
-        Register::LongIdentity => d,
+        Register::Serial => d.identity.serial = value,
+        Register::ModeRegister => d.registers.mr0 = value[0],
+        Register::Configuration1
+        | Register::Configuration2
+        | Register::Configuration3
+        | Register::Configuration4
+        | Register::Identity
+        | Register::Unique
+        | Register::LongIdentity => {}
     }
+    d
 }
 
 // A burst into memory or area, stored or wholly protected.
@@ -91,8 +76,7 @@ fn write_done(d: Device, to: Target, value: [u8; 8]) -> Device
     match to {
         Target::Register(r) => register_done(d, r, value),
         Target::Mode => written(d, Register::ModeRegister, value),
-        Target::Memory(_) => burst_done(d),
-        Target::Area => burst_done(d),
+        Target::Memory(_) | Target::Area => burst_done(d),
     }
 }
 
@@ -101,9 +85,8 @@ fn effect(d: Device, k: Kind, value: [u8; 8]) -> Device
     ensures { result ≡ effect_of k value d }
 {
     match k {
-        Kind::Unknown => d,
+        Kind::Unknown | Kind::Read(_) => d,
         Kind::Plain(c) => controlled(d, c),
-        Kind::Read(_) => d,
         Kind::Write(to) => write_done(d, to, value),
     }
 }
@@ -141,28 +124,20 @@ fn latch_needed(family: Family, cr4: u8, k: Kind) -> bool
 }
 
 // Whether it needs the latch and the latch is down.
+#[tactic(auto, unfolding(crate::specs::Latches::latch_missing))]
 pub fn latch_missing(family: Family, cr4: u8, latch: bool, k: Kind) -> bool
     ensures { result ≡ latch_missing family cr4 latch k }
 {
-    if latch_needed(family, cr4, k) {
-        return !latch;
-    }
-    false
+    latch_needed(family, cr4, k) && !latch
 }
 
 fn kind_needs(cr4: u8, k: Kind) -> bool
     ensures { result ≡ kind_needs cr4 k }
 {
     match k {
-        Kind::Unknown => false,
-        Kind::Plain(_) => false,
-        Kind::Read(_) => false,
-        Kind::Write(to) => match to {
-            Target::Register(_) => true,
-            Target::Mode => false,
-            Target::Memory(_) => cr4 % 4 != 1,
-            Target::Area => cr4 % 4 != 1,
-        },
+        Kind::Unknown | Kind::Plain(_) | Kind::Read(_) | Kind::Write(Target::Mode) => false,
+        Kind::Write(Target::Register(_)) => true,
+        Kind::Write(Target::Memory(_) | Target::Area) => cr4 % 4 != 1,
     }
 }
 
@@ -170,8 +145,5 @@ fn kind_needs(cr4: u8, k: Kind) -> bool
 fn after_burst(cr4: u8, latch: bool) -> bool
     ensures { result ≡ after_burst cr4 latch }
 {
-    match cr4 % 4 {
-        0 => false,
-        _ => latch,
-    }
+    cr4 % 4 != 0 && latch
 }

@@ -1,12 +1,14 @@
 -- DEMANDS 2 AND 3 FOR TRANSACTIONS FED IN CHUNKS, once closed. The calls are known here by their contracts alone. Document 02, P1, the last sentence before the refusals.
 -- Assumes nothing.
-use Rattle.std.specs.Prelude.{◌≡◌, refl, ℕ, ◌≤◌, true, length, take, drop}
+use Rattle.std.specs.Prelude.{◌≡◌, refl, ℕ, ◌≤◌, true, length, take, drop, Result, Ok}
 use Rattle.std.proofs.Common.{sym, ap, subst, ◌∙◌, le_refl, arith, length-append, length-drop, le-leb, take_at, take-add, take_all, length-take-le}
 use mathlib.Core.List.{List, [], ◌∷◌, ◌++◌, map, Permᴰ, Pairwise}
 use Rattle.std.proofs.lemmas.List.{length-replicate}
 use Rattle.units.specs.declared.Clocks.{Clocks}
+use Rattle.units.specs.declared.Bytes.{Bytes}
 use Rattle.units.specs.Units.{wires_of}
 use Rattle.commands.specs.Plans.{reads}
+use Rattle.record.specs.declared.answers.Answer.{Answer}
 use Rattle.record.specs.declared.answers.Answer.TheVariants.{Done}
 use Rattle.record.specs.declared.devices.Device.{Device}
 use Rattle.record.specs.declared.devices.Outcome.{Outcome}
@@ -22,9 +24,7 @@ use Rattle.paper.specs.Collecting.{collect_of}
 use Rattle.machine_chunks.specs.Chunks.{open_of, feed_of, close_of}
 use Rattle.host_order.specs.declared.Order.{Order}
 use Rattle.host_order.specs.Orders.{order_as}
-use Rattle.host.specs.declared.Built.{Built}
-use Rattle.host.specs.declared.Gathered.{Gathered}
-use Rattle.host.specs.Results.{built_as, gathered_as}
+use Rattle.host.specs.Results.{built_as, gathered_as, NeverDone}
 use Rattle.demand_1_2.specs.Built.{bytes_driven}
 use Rattle.demand_1_2.proofs.Kept.{transact_kept, transact_underway}
 use Rattle.demand_1_2.specs.Meant.{Spelled, Meant, Lendable, sent, wires_in, body_meant, bytes_read, faultless}
@@ -209,21 +209,23 @@ any_chunks c r t e₁ e₂ order episodes apart {rs₁} {rs₂} {c₁} {c₂} m�
 pub record DrivenInChunks (o : paper.Order) (d : Device) (l : Lent) : Type 0 where
   -- `build`, which was answered 0
   pub room : List ℕ
-  pub built : Built
+  pub built : Result Clocks Answer
   pub samples : List ℕ
   pub builds : built_as built samples ≡ build_of o room
-  pub done : built.answer ≡ Done
+  pub clocks : Clocks
+  pub done : built ≡ Ok clocks
   -- the samples that it told, cut anywhere, opened, fed and closed
   pub cut : List Call
-  pub whole : together cut ≡ first built.clocks samples
+  pub whole : together cut ≡ first clocks samples
   pub outs : List (List ℕ)
   pub outcome : Outcome
   pub through : Through (record { device = d; lent = l }) cut outs outcome
   -- `gather`, on what the chunks put out
   pub store : List ℕ
-  pub gathered : Gathered
+  pub gathered : Result Bytes Answer
   pub bytes : List ℕ
   pub gathers : gathered_as gathered bytes ≡ collect_of (wires_of (wires_in o)) (put_together cut outs) store
+  pub refused : NeverDone gathered
 
 -- what the driver has then: as much as of the whole transaction
 pub record ServedInChunks (o : paper.Order) (d : Device) (l : Lent) (p : DrivenInChunks o d l) : Type 0 where
@@ -232,6 +234,7 @@ pub record ServedInChunks (o : paper.Order) (d : Device) (l : Lent) (p : DrivenI
   pub done : reads (body_meant o) ≡ true → p.outcome.answer ≡ Done
   pub heard : reads (body_meant o) ≡ true → (bytes_driven (body_meant o) o.wanted).0 ≤ length p.store
       → gathered_as p.gathered p.bytes ≡ record { answer = Done; number = bytes_driven (body_meant o) o.wanted; buffer = over (bytes_read o d l) p.store }
+  pub gathered : reads (body_meant o) ≡ true → (bytes_driven (body_meant o) o.wanted).0 ≤ length p.store → p.gathered ≡ Ok (bytes_driven (body_meant o) o.wanted)
 
 module _ (q : Order) (written : List ℕ) (d : Device) (l : Lent) (sp : Spelled (order_as q written)) (m : Meant (order_as q written) d) (p : DrivenInChunks (order_as q written) d l)
     (i : Idle (record { device = d; lent = l })) where
@@ -245,16 +248,17 @@ module _ (q : Order) (written : List ℕ) (d : Device) (l : Lent) (sp : Spelled 
   ran = transact_of d l xs (undriven xs)
 
   -- as many samples as `build` told
-  told_so : many xs ≡ p.built.clocks
+  told_so : many xs ≡ p.clocks
   told_so =
-      let asked : (build_of o p.room).answer ≡ Done = ap (λ (t : Told Clocks). t.answer) (sym p.builds) ∙ p.done in
-      ap many (p.whole ∙ ap sent p.builds) ∙ sent_told o p.room asked ∙ ap (λ (t : Told Clocks). t.number) (sym p.builds)
+      let told : build_of o p.room ≡ record { answer = Done; number = p.clocks; buffer = p.samples } =
+      sym p.builds ∙ ap (λ (r : Result Clocks Answer). built_as r p.samples) p.done in
+      ap many (p.whole ∙ ap sent (sym told)) ∙ sent_told o p.room (ap (λ (t : Told Clocks). t.answer) told) ∙ ap (λ (t : Told Clocks). t.number) told
 
-  all_told : first p.built.clocks ran.output ≡ ran.output
+  all_told : first p.clocks ran.output ≡ ran.output
   all_told =
       let h = kept_own _ i p.through in
       let n = ap (λ (c : Clocks). c.0) told_so in
-      take_all p.built.clocks.0 ran.output (omega arith)
+      take_all p.clocks.0 ran.output (omega arith)
 
   -- the three calls of a driver that clocks the whole
   abbrev as_whole : Driven o d l
@@ -264,6 +268,7 @@ module _ (q : Order) (written : List ℕ) (d : Device) (l : Lent) (sp : Spelled 
         built = p.built;
         samples = p.samples;
         builds = p.builds;
+        clocks = p.clocks;
         done = p.done;
         out = undriven xs;
         outcome = outcome_in ran;
@@ -275,6 +280,7 @@ module _ (q : Order) (written : List ℕ) (d : Device) (l : Lent) (sp : Spelled 
         gathered = p.gathered;
         bytes = p.bytes;
         gathers = p.gathers ∙ ap (λ (ys : List ℕ). collect_of (wires_of (wires_in o)) ys p.store) (driven_own _ i p.through ∙ sym all_told);
+        refused = p.refused;
       }
 
   served_idle : Lendable d l xs (undriven xs) → ServedInChunks o d l p
@@ -286,6 +292,7 @@ module _ (q : Order) (written : List ℕ) (d : Device) (l : Lent) (sp : Spelled 
         answer = ap faultless e ∙ s.answer;
         done = λ z. e ∙ s.done z;
         heard = s.heard;
+        gathered = s.gathered;
       }
 
 pub served_in_chunks : (q : Order) (written : List ℕ) (d : Device) (l : Lent)

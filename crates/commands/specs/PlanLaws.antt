@@ -1,6 +1,6 @@
 -- Laws of the plan: the rule of the table of waits.
 -- Assumes nothing.
-use Rattle.std.specs.Prelude.{◌≡◌, refl, ℕ, ◌+◌, ◌*◌, ◌%◌, ◌<◌, ◌≤◌, Bool, true, false, [], ◌∷◌, length, get_or}
+use Rattle.std.specs.Prelude.{◌≡◌, refl, ℕ, ◌+◌, ◌*◌, ◌%◌, ◌<◌, ◌≤◌, Bool, true, false, [], ◌∷◌, length, get_or, Some, None}
 use Rattle.std.proofs.Common.{sym, ap, ◌∙◌, arith, lit≤, lit<}
 use Rattle.std.proofs.lemmas.Bool.{eqb-false}
 use Rattle.std.proofs.Math.ListN.{get_or-append}
@@ -11,7 +11,7 @@ use Rattle.kinds.specs.declared.ReadForm.TheVariants as Reads
 use Rattle.kinds.specs.declared.Source.TheVariants as From
 use Rattle.kinds.specs.declared.Kind.{Kind}
 use Rattle.kinds.specs.declared.Kind.TheVariants.{Unknown, Plain, Read, Write}
-use Rattle.commands.specs.Plans.{fixed_waits, wait_table, wait_row, waits_by_register, column_of, wait_of}
+use Rattle.commands.specs.Plans.{fixed_waits, wait_table, wait_row, waits_by_register, fixed_row, column_of, wait_of}
 
 pub column_lt : (w : Wires) → column_of w < 3
 column_lt One = lit< tt
@@ -58,3 +58,11 @@ wait_by k w a b e = by (waits_by_register k) refl e
     by : (t : Bool) → waits_by_register k ≡ t → (t ≡ true → a ≡ b) → wait_of k w a ≡ wait_of k w b
     by true h e = ap (wait_of k w) (e refl)
     by false h e = let n = eqb-false (wait_row k) 5 h in sym (wait_fixed k w a n) ∙ wait_fixed k w b n
+
+-- a row of the fixed waits is the command's row, and not the last
+pub row_some : (k : Kind) (r : ℕ) → fixed_row k ≡ Some r → (wait_row k ≡ r) × (wait_row k ≡ 5 → ⊥)
+row_some k r h = by (waits_by_register k) refl
+  where
+    by : (t : Bool) → waits_by_register k ≡ t → (wait_row k ≡ r) × (wait_row k ≡ 5 → ⊥)
+    by true e = let i : None ≡ Some r = rw e at h in absurd (cc i)
+    by false e = let i : Some (wait_row k) ≡ Some r = rw e at h in (cc i, eqb-false (wait_row k) 5 e)

@@ -1,6 +1,6 @@
 -- The plan of a command: on which wires it travels, what its address names, how long it waits, what its data is. Document 01, the columns of the
 -- two command tables and the paragraphs below them.
-use Rattle.std.specs.Prelude.{ℕ, ◌+◌, ◌*◌, ◌%◌, Bool, true, false, List, [], ◌∷◌, ◌++◌, eqb, get_or, Option, Some, None}
+use Rattle.std.specs.Prelude.{ℕ, ◌+◌, ◌*◌, ◌%◌, Bool, true, false, cond, List, [], ◌∷◌, ◌++◌, eqb, get_or, Option, Some, None}
 use Rattle.kinds.specs.declared.Register.{Register}
 use Rattle.units.specs.declared.Clocks.{Clocks}
 use Rattle.units.specs.declared.Wires.{Wires}
@@ -57,6 +57,10 @@ wait_row (Write t) = 0
 
 abbrev pub waits_by_register : Kind → Bool
 waits_by_register k = eqb (wait_row k) 5
+
+-- the row of a wait that is fixed, and none of 4B's
+abbrev pub fixed_row : Kind → Option ℕ
+fixed_row k = cond (waits_by_register k) None (Some (wait_row k))
 
 abbrev pub column_of : Wires → ℕ
 column_of On.One = 0

@@ -1,13 +1,14 @@
 // The plan of a command: what its clocks are for.
 ghost use Rattle.std.specs.Prelude.{◌≡◌};
-ghost use Rattle.commands.specs.Plans.{column_of, wait_row, waits_by_register, wait_of, later_wires, address_of, mapped_body, read_body, write_body, body_of, writes};
+ghost use Rattle.commands.specs.Plans.{column_of, fixed_row, waits_by_register, wait_of, later_wires, address_of, mapped_body, read_body, write_body, body_of, writes};
 
 use crate::registers::{register_at, size_of};
 use kinds::{Kind, ReadForm, Register, Source, Target, WriteForm};
 use parts::Part;
 use units::{Bytes, Clocks, Wires};
 
-// What the address of a command names, if it has one.
+// What the address of a command names, if it has one. That there is none is a case like the others, in which every address is
+// allowed, and the definitions go by all six (`allowed_of`, `address_length`).
 #[derive(Clone, Copy, PartialEq, Eq)]
 pub enum Address {
     Absent,
@@ -18,7 +19,7 @@ pub enum Address {
     Ignored,
 }
 
-// The data of a command: none, so many bytes, or as many as are clocked.
+// The data of a command: none, so many bytes, or as many as are clocked; the definitions go by all five cases (`data_of`).
 #[derive(Clone, Copy, PartialEq, Eq)]
 pub enum Body {
     Nothing,
@@ -28,33 +29,23 @@ pub enum Body {
     AnyWrite,
 }
 
-// Waits in clocks, a row for each wait that the papers name: on one, two and four wires.
+// Waits in clocks, a row for each wait that the papers name: on one, two and four wires, in the order in which `Wires` has them.
 const WAITS: [usize; 15] = [0, 0, 0, 8, 4, 2, 8, 0, 4, 6, 0, 6, 8, 0, 6];
 
-// The row that is not in the table: the wait stands in configuration 2.
-const BY_REGISTER: usize = 5;
-
-// The row of a command's wait.
-fn wait_row(k: Kind) -> usize
-    ensures { result ≡ wait_row k }
+// The row of a command's wait; none where the wait stands in configuration 2.
+fn wait_row(k: Kind) -> Option<usize>
+    ensures { result ≡ fixed_row k }
 {
     match k {
-        Kind::Unknown => 0,
-        Kind::Plain(_) => 0,
+        Kind::Unknown | Kind::Plain(_) | Kind::Write(_) => Some(0),
         Kind::Read(from) => match from {
-            Source::Register(_) => 0,
-            Source::Map => 1,
-            Source::Mode => 4,
-            Source::Identity => 0,
-            Source::Memory(r) => match r {
-                ReadForm::Plain => 0,
-                ReadForm::Fast => 2,
-                ReadForm::Quad => 3,
-                ReadForm::Wrapped => 4,
-            },
-            Source::Area => BY_REGISTER,
+            Source::Register(_) | Source::Identity | Source::Memory(ReadForm::Plain) => Some(0),
+            Source::Map => Some(1),
+            Source::Memory(ReadForm::Fast) => Some(2),
+            Source::Memory(ReadForm::Quad) => Some(3),
+            Source::Memory(ReadForm::Wrapped) | Source::Mode => Some(4),
+            Source::Area => None,
         },
-        Kind::Write(_) => 0,
     }
 }
 
@@ -62,18 +53,14 @@ fn wait_row(k: Kind) -> usize
 pub fn waits_by_register(k: Kind) -> bool
     ensures { result ≡ waits_by_register k }
 {
-    wait_row(k) == BY_REGISTER
+    matches!(k, Kind::Read(Source::Area))
 }
 
 // The column of a bus mode.
 fn column(w: Wires) -> usize
     ensures { result ≡ column_of w }
 {
-    match w {
-        Wires::One => 0,
-        Wires::Two => 1,
-        Wires::Four => 2,
-    }
+    w as usize
 }
 
 // The clocks between address and data. Those of the augmented read, which only the MRAM has, stand in the low
@@ -81,10 +68,9 @@ fn column(w: Wires) -> usize
 pub fn wait_of(k: Kind, w: Wires, cr2: u8) -> Clocks
     ensures { result ≡ wait_of k w cr2 }
 {
-    let row = wait_row(k);
-    if row == BY_REGISTER {
+    let Some(row) = wait_row(k) else {
         return Clocks::stated((cr2 % 16) as usize);
-    }
+    };
     Clocks::stated(WAITS[3 * row + column(w)])
 }
 
@@ -93,30 +79,9 @@ pub fn later_wires(k: Kind, w: Wires) -> Wires
     ensures { result ≡ later_wires k w }
 {
     match k {
-        Kind::Unknown => w,
-        Kind::Plain(_) => w,
-        Kind::Read(from) => match from {
-            Source::Register(_) => w,
-            Source::Map => w,
-            Source::Mode => w,
-            Source::Identity => w,
-            Source::Memory(r) => match r {
-                ReadForm::Plain => w,
-                ReadForm::Fast => w,
-                ReadForm::Quad => Wires::Four,
-                ReadForm::Wrapped => w,
-            },
-            Source::Area => w,
-        },
-        Kind::Write(to) => match to {
-            Target::Register(_) => w,
-            Target::Mode => w,
-            Target::Memory(r) => match r {
-                WriteForm::Plain => w,
-                WriteForm::Quad => Wires::Four,
-            },
-            Target::Area => w,
-        },
+        Kind::Read(Source::Memory(ReadForm::Quad)) | Kind::Write(Target::Memory(WriteForm::Quad)) =>
+            Wires::Four,
+        _ => w,
     }
 }
 
@@ -125,22 +90,13 @@ pub fn address_of(k: Kind) -> Address
     ensures { result ≡ address_of k }
 {
     match k {
-        Kind::Unknown => Address::Absent,
-        Kind::Plain(_) => Address::Absent,
-        Kind::Read(from) => match from {
-            Source::Register(_) => Address::Absent,
-            Source::Map => Address::InMap,
-            Source::Mode => Address::LowNibbleZero,
-            Source::Identity => Address::Ignored,
-            Source::Memory(_) => Address::InMemory,
-            Source::Area => Address::InArea,
-        },
-        Kind::Write(to) => match to {
-            Target::Register(_) => Address::Absent,
-            Target::Mode => Address::LowNibbleZero,
-            Target::Memory(_) => Address::InMemory,
-            Target::Area => Address::InArea,
-        },
+        Kind::Unknown | Kind::Plain(_) => Address::Absent,
+        Kind::Read(Source::Register(_)) | Kind::Write(Target::Register(_)) => Address::Absent,
+        Kind::Read(Source::Map) => Address::InMap,
+        Kind::Read(Source::Mode) | Kind::Write(Target::Mode) => Address::LowNibbleZero,
+        Kind::Read(Source::Identity) => Address::Ignored,
+        Kind::Read(Source::Memory(_)) | Kind::Write(Target::Memory(_)) => Address::InMemory,
+        Kind::Read(Source::Area) | Kind::Write(Target::Area) => Address::InArea,
     }
 }
 
@@ -148,10 +104,7 @@ pub fn address_of(k: Kind) -> Address
 fn mapped_body(m: Option<Register>) -> Body
     ensures { result ≡ mapped_body m }
 {
-    match m {
-        Some(r) => Body::FixedRead(size_of(r)),
-        None => Body::Nothing,
-    }
+    m.map_or(Body::Nothing, |r| Body::FixedRead(size_of(r)))
 }
 
 // The data of a read. The address counts where it names the register that is read.
@@ -163,8 +116,7 @@ fn read_body(part: Part, from: Source, address: u32) -> Body
         Source::Map => mapped_body(register_at(part, address)),
         Source::Mode => Body::FixedRead(size_of(Register::ModeRegister)),
         Source::Identity => Body::FixedRead(size_of(Register::LongIdentity)),
-        Source::Memory(_) => Body::AnyRead,
-        Source::Area => Body::AnyRead,
+        Source::Memory(_) | Source::Area => Body::AnyRead,
     }
 }
 
@@ -175,8 +127,7 @@ fn write_body(to: Target) -> Body
     match to {
         Target::Register(r) => Body::FixedWrite(size_of(r)),
         Target::Mode => Body::FixedWrite(size_of(Register::ModeRegister)),
-        Target::Memory(_) => Body::AnyWrite,
-        Target::Area => Body::AnyWrite,
+        Target::Memory(_) | Target::Area => Body::AnyWrite,
     }
 }
 
@@ -185,8 +136,7 @@ pub fn body_of(part: Part, k: Kind, address: u32) -> Body
     ensures { result ≡ body_of part k address }
 {
     match k {
-        Kind::Unknown => Body::Nothing,
-        Kind::Plain(_) => Body::Nothing,
+        Kind::Unknown | Kind::Plain(_) => Body::Nothing,
         Kind::Read(from) => read_body(part, from, address),
         Kind::Write(to) => write_body(to),
     }
@@ -196,11 +146,5 @@ pub fn body_of(part: Part, k: Kind, address: u32) -> Body
 pub fn is_write(b: Body) -> bool
     ensures { result ≡ writes b }
 {
-    match b {
-        Body::Nothing => false,
-        Body::FixedRead(_) => false,
-        Body::AnyRead => false,
-        Body::FixedWrite(_) => true,
-        Body::AnyWrite => true,
-    }
+    matches!(b, Body::FixedWrite(_) | Body::AnyWrite)
 }

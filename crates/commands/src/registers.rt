@@ -1,44 +1,25 @@
 // Registers: how many bytes each has, and where 65h finds it.
 ghost use Rattle.std.specs.Prelude.{◌≡◌};
 ghost use Rattle.basis.specs.Rows.{look};
-ghost use Rattle.commands.specs.Registers.{table_place, bytes_of, mram_map, mapped_of};
+ghost use Rattle.commands.specs.Registers.{bytes_of, mram_map, mapped_of};
 ghost use Rattle.parts.specs.declared.Part.TheVariants.{M32};
 
 use kinds::Register;
 use parts::Part;
 use units::Bytes;
 
-// Bytes of the registers, in the order of `number_of`.
+// Bytes of the registers, in the order in which `Register` has them.
 const SIZES: [usize; 12] = [1, 1, 1, 1, 1, 1, 4, 4, 8, 8, 1, 8];
-
-// The place of a register in the tables.
-fn number_of(r: Register) -> usize
-    ensures { result ≡ table_place r }
-{
-    match r {
-        Register::Status => 0,
-        Register::AreaProtection => 1,
-        Register::Configuration1 => 2,
-        Register::Configuration2 => 3,
-        Register::Configuration3 => 4,
-        Register::Configuration4 => 5,
-        Register::Configurations => 6,
-        Register::Identity => 7,
-        Register::Unique => 8,
-        Register::Serial => 9,
-        Register::ModeRegister => 10,
-        Register::LongIdentity => 11,
-    }
-}
 
 // The bytes of a register.
 pub fn size_of(r: Register) -> Bytes
     ensures { result ≡ bytes_of r }
 {
-    Bytes::stated(SIZES[number_of(r)])
+    Bytes::stated(SIZES[r as usize])
 }
 
 // The register that 65h finds at an address of the part's register map.
+#[tactic(auto, unfolding(crate::specs::Registers::mapped_of))]
 pub fn register_at(part: Part, address: u32) -> Option<Register>
     ensures { result ≡ mapped_of part address }
 {
@@ -66,6 +47,7 @@ fn register_of_mram(address: u32) -> Option<Register>
 }
 
 // Part M32: the serial number, and otherwise what every part has.
+#[tactic(auto, unfolding(crate::specs::Registers::mapped_of))]
 fn register_of_m32(address: u32) -> Option<Register>
     ensures { result ≡ mapped_of M32 address }
 {

@@ -3,7 +3,7 @@
 --
 -- A command reaches only fields that its family has, because each row of the family's table is a command of that family: one computed test over the rows.
 -- Assumes nothing.
-use Rattle.std.specs.Prelude.{◌≡◌, refl, Bool, true, false, cond, not, ◌&&◌, List, [], ◌∷◌, ℕ, ◌+◌, ◌/◌, ◌%◌, eqb, ltb, length, get_or, set, drop}
+use Rattle.std.specs.Prelude.{◌≡◌, refl, Bool, true, false, cond, not, ◌&&◌, List, [], ◌∷◌, ℕ, ◌+◌, ◌/◌, ◌%◌, eqb, ltb, length, get_or, set, drop, Option, Some, None}
 use Rattle.std.proofs.Common.{◌∙◌, sym, subst, arith, length-set, length-append, length-drop, lt-ltb, ltb-true, leb-true, eqb-true, eq-eqb}
 use Rattle.std.proofs.lemmas.List.{length-replicate}
 use Rattle.basis.specs.Truth.{both_true, untrue, not_untrue}
@@ -25,7 +25,8 @@ use Rattle.kinds.specs.declared.Register.TheVariants as At
 use Rattle.kinds.specs.declared.Target.TheVariants as Into
 use Rattle.kinds.specs.declared.Kind.{Kind}
 use Rattle.kinds.specs.declared.Kind.TheVariants.{Unknown, Plain, Read, Write}
-use Rattle.opcodes.specs.Opcodes.{Meaning, rows_of, no_meaning, meaning_of, in_modes, kind_of}
+use Rattle.opcodes.specs.declared.Meaning.{Meaning}
+use Rattle.opcodes.specs.Opcodes.{rows_of, meaning_of, in_modes, kind_in, kind_of}
 use Rattle.commands.specs.declared.plans.Body.{Body}
 use Rattle.commands.specs.declared.plans.Body.TheVariants.{Nothing, FixedRead, AnyRead, FixedWrite, AnyWrite}
 use Rattle.record.specs.declared.answers.Answer.{Answer}
@@ -57,15 +58,21 @@ use Rattle.demand_1_2.specs.Driven.{driven_length}
 use Rattle.demand_1_2.specs.Kept.{Fields, Good, Kept, Of, SameSize, controls, has, registers}
 
 -- every row is a command of its family, and so is what any opcode is read as
-has_rows : (f : Family) → each_row (λ (m : Meaning). has f m.kind) (rows_of f) ≡ true
+abbrev has_meaning : Family → Option Meaning → Bool
+has_meaning f None = true
+has_meaning f (Some m) = has f m.kind
+
+has_rows : (f : Family) → each_row (has_meaning f) (rows_of f) ≡ true
 has_rows Mram = refl
 has_rows Psram = refl
 
+has_kind_in : (f : Family) (w : Wires) (m : Option Meaning) → has_meaning f m ≡ true → has f (kind_in m w) ≡ true
+has_kind_in f w None h = refl
+has_kind_in f w (Some m) h = either_passes (has f) m.kind Unknown (in_modes m.modes w) h refl
+
 has_kind : (f : Family) (w : Wires) (opcode : ℕ) → has f (kind_of f w opcode) ≡ true
 unfolding meaning_of
-has_kind f w opcode =
-    either_passes (has f) (meaning_of f opcode).kind Unknown (in_modes (meaning_of f opcode).modes w)
-    (look_passes (λ (m : Meaning). has f m.kind) no_meaning (rows_of f) opcode (has_rows f) refl) refl
+has_kind f w opcode = has_kind_in f w (meaning_of f opcode) (look_passes (has_meaning f) None (rows_of f) opcode (has_rows f) refl)
 
 has_read : (s : Setting) (xs : List ℕ) → has (family_of s.part) (kind_read s xs) ≡ true
 unfolding kind_read

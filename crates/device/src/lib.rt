@@ -7,17 +7,13 @@ ghost use Rattle.machine_chunks.specs.Chunks.{open_of, feed_of, close_of};
 ghost use Rattle.contract_words.specs.Words.{lends, world_of};
 
 use parts::{Family, Part};
-use record::{Answer, Device, Outcome, is_refusal, unclocked};
+use record::{Answer, Device, Outcome, unclocked};
 
 // A memory that comes back from a power cycle all 00h.
 pub fn wipe(memory: &mut [u8])
     ensures { memory.new ≡ replicate (length memory.old) 0 }
 {
-    let mut i = 0;
-    while i < memory.len() {
-        memory[i] = 0;
-        i += 1;
-    }
+    memory.fill(0);
 }
 
 // A power cycle. The area is only looked at.
@@ -25,18 +21,14 @@ pub fn power_cycle(d: Device, memory: &mut [u8], area: &[u8]) -> Outcome
     ensures { world_of result memory.new area.now [] ≡ power_of d (lends memory.old area.now) }
 {
     let meanwhile = d.underway.selected;
-    let v = device_checks::bare(d, memory, area, meanwhile);
-    if is_refusal(v) {
+    if let Err(v) = device_checks::bare(d, memory, area, meanwhile) {
         return unclocked(v, d);
     }
-    let part = Part::of(d.make.part);
-    match part.family() {
-        Family::Mram => unclocked(Answer::Done, d.powered()),
-        Family::Psram => {
-            wipe(memory);
-            unclocked(Answer::Done, d.powered())
-        }
+    match Part::of(d.make.part).family() {
+        Family::Mram => {}
+        Family::Psram => wipe(memory),
     }
+    unclocked(Answer::Done, d.powered())
 }
 
 // A transaction: the clock samples of one stretch of chip select, and what they leave.
@@ -51,8 +43,7 @@ pub fn transact(
 {
     let meanwhile = d.underway.selected;
     let fits = device_checks::has_room(samples, output);
-    let v = device_checks::clocked(d, memory, area, samples, fits, meanwhile);
-    if is_refusal(v) {
+    if let Err(v) = device_checks::clocked(d, memory, area, samples, fits, meanwhile) {
         return unclocked(v, d);
     }
     machine_stretches::clocked(d, memory, area, samples, output)
@@ -63,8 +54,7 @@ pub fn open(d: Device, memory: &[u8], area: &[u8]) -> Outcome
     ensures { world_of result memory.now area.now [] ≡ open_of d (lends memory.now area.now) }
 {
     let twice = d.underway.selected;
-    let v = device_checks::bare(d, memory, area, twice);
-    if is_refusal(v) {
+    if let Err(v) = device_checks::bare(d, memory, area, twice) {
         return unclocked(v, d);
     }
     unclocked(Answer::Done, d.opened())
@@ -82,8 +72,7 @@ pub fn feed(
 {
     let u = d.underway;
     let fits = device_checks::has_room_after(u, samples, output);
-    let v = device_checks::clocked(d, memory, area, samples, fits, !u.selected);
-    if is_refusal(v) {
+    if let Err(v) = device_checks::clocked(d, memory, area, samples, fits, !u.selected) {
         return unclocked(v, d);
     }
     let e = machine_chunks::go_on(d, memory, area, samples, output);
@@ -95,8 +84,7 @@ pub fn close(d: Device, memory: &[u8], area: &[u8]) -> Outcome
     ensures { world_of result memory.now area.now [] ≡ close_of d (lends memory.now area.now) }
 {
     let u = d.underway;
-    let v = device_checks::bare(d, memory, area, !u.selected);
-    if is_refusal(v) {
+    if let Err(v) = device_checks::bare(d, memory, area, !u.selected) {
         return unclocked(v, d);
     }
     let p = machine_chunks::resume(d.setting(), u);

@@ -1,12 +1,16 @@
-// The checks before a call of the device, in their order: for each of the two lists a function that tells the answer of the first
-// check that fails, and 0 where all are passed. Nothing is asked of the caller.
+// The checks before a call of the device, in their order: for each of the two lists a function that passes, or refuses with the
+// answer of the first check that fails. Nothing is asked of the caller.
 #![tactic(auto)]
 
-ghost use Rattle.std.specs.Prelude.{◌≡◌, [], ◌∷◌, ◌≤◌};
+ghost use Rattle.std.specs.Prelude.{◌≡◌, [], ◌∷◌, ◌≤◌, true, not, ltb, IfErr};
+ghost use Rattle.std.specs.List.{list_all};
+ghost use Rattle.units.specs.Units.{plus, at_most, longest};
 ghost use Rattle.basis.specs.Decisions.{first_of};
 ghost use Rattle.record.specs.declared.answers.Answer.TheVariants.{Done};
+ghost use Rattle.record.specs.Answers.{refuses};
 ghost use Rattle.paper.specs.Transaction.{sized_for, room_for, so_far, room_after, sampled, last_checks, clock_checks, bare_checks};
 ghost use Rattle.contract_words.specs.Words.{lends};
+ghost use Rattle.device_checks.specs.Verdict.{told};
 
 use parts::Part;
 use record::{Answer, Device, Underway};
@@ -16,33 +20,26 @@ use units::{Bytes, Clocks};
 const LEVELS: u8 = 16;
 
 // Whether part and n are in range, and what is lent has the sizes that they give.
+#[tactic(auto, using(crate::specs::Laws::offered_reach), unfolding(paper::specs::Transaction::sized_for))]
 fn is_sized(d: Device, memory: &[u8], area: &[u8]) -> bool
     ensures { result ≡ sized_for d (lends memory.now area.now) }
 {
-    let number = d.make.part;
     let n = d.make.n;
-    if !Part::is_known(number) {
+    let Ok(part) = Part::try_from(d.make.part) else {
         return false;
-    }
-    let part = Part::of(number);
-    if !parts::is_offered(part, n) {
-        return false;
-    }
-    if Bytes::of_store(memory) != places::memory_size(n) {
-        return false;
-    }
-    Bytes::of_store(area) == part.area()
+    };
+    parts::is_offered(part, n)
+        && Bytes::of_store(memory) == places::memory_size(n)
+        && Bytes::of_store(area) == part.area()
 }
 
 // Whether the clocks are few enough, and the output has room for what they drive.
+#[tactic(auto, using(units::specs::Compared::le_is), unfolding(paper::specs::Transaction::room_for))]
 pub fn has_room(samples: &[u8], output: &[u8]) -> bool
     ensures { result ≡ room_for samples.now output.now }
 {
     let clocks = Clocks::of_samples(samples);
-    if clocks <= Clocks::longest() {
-        return clocks <= Clocks::of_samples(output);
-    }
-    false
+    clocks <= Clocks::longest() && clocks <= Clocks::of_samples(output)
 }
 
 // The clocks of the chunks so far, where a transaction is open.
@@ -55,70 +52,64 @@ fn so_far(u: Underway) -> Clocks
     Clocks::none()
 }
 
+// Whether so many clocks more are few enough.
+fn is_few(before: Clocks, more: Clocks) -> bool
+    ensures { result ≡ at_most (plus before more) longest }
+{
+    let most = Clocks::longest();
+    before <= most && more <= most.past(before)
+}
+
 // Whether the clocks of a chunk, with those of the chunks before it, are few enough, and the output has room for what it drives.
+#[tactic(auto, using(units::specs::Compared::le_is), unfolding(paper::specs::Transaction::room_after))]
 pub fn has_room_after(u: Underway, samples: &[u8], output: &[u8]) -> bool
     ensures { result ≡ room_after u samples.now output.now }
 {
-    let before = so_far(u);
     let clocks = Clocks::of_samples(samples);
-    let most = Clocks::longest();
-    if before > most {
-        return false;
-    }
-    if clocks > most.past(before) {
-        return false;
-    }
-    clocks <= Clocks::of_samples(output)
+    is_few(so_far(u), clocks) && clocks <= Clocks::of_samples(output)
 }
 
 // Whether every sample is a level of four wires.
 fn is_sampled(samples: &[u8]) -> bool
-    ensures { result ≡ sampled samples.now }
+    ensures { result ≡ list_all (λ x. ltb x 16) samples.now }
 {
-    let mut i = 0;
-    while i < samples.len() {
-        let x = samples[i];
-        if LEVELS <= x {
-            return false;
-        }
-        i += 1;
-    }
-    true
+    samples.iter().all(|x| *x < LEVELS)
 }
 
-// The answer of the first of two checks that fails, and 0 where both are passed.
-fn first_of(a: bool, v: Answer, b: bool, w: Answer) -> Answer
-    ensures { result ≡ first_of Done ((a, v) ∷ (b, w) ∷ []) }
+// A check, and the answer with which it refuses where it fails.
+fn check(passed: bool, v: Answer) -> Result<(), Answer>
+    requires { refuses v ≡ true }
+    ensures verdict { told result ≡ first_of Done ((not passed, v) ∷ []) }
+    ensures refused { IfErr result (λ v. refuses v ≡ true) }
 {
-    if a {
-        return v;
+    if passed {
+        return Ok(());
     }
-    if b {
-        return w;
-    }
-    Answer::Done
+    Err(v)
 }
 
 // The checks that each list ends with: the state, and then whose turn it is. An untimely call is out of turn.
-fn last(d: Device, untimely: bool) -> Answer
+fn last(d: Device, untimely: bool) -> Result<(), Answer>
     requires { d.make.n ≤ 24 }
-    ensures { result ≡ first_of Done (last_checks d untimely) }
+    ensures verdict { told result ≡ first_of Done (last_checks d untimely) }
+    ensures refused { IfErr result (λ v. refuses v ≡ true) }
 {
-    let wrong = !underway::valid(d);
-    first_of(wrong, Answer::State, untimely, Answer::Turn)
+    check(underway::valid(d), Answer::State)?;
+    check(!untimely, Answer::Turn)
 }
 
 // The checks of a call without clocks.
-pub fn bare(d: Device, memory: &[u8], area: &[u8], untimely: bool) -> Answer
-    ensures { result ≡ first_of Done (bare_checks d (lends memory.now area.now) untimely) }
+#[tactic(auto, using(crate::specs::Laws::sized_reach))]
+pub fn bare(d: Device, memory: &[u8], area: &[u8], untimely: bool) -> Result<(), Answer>
+    ensures verdict { told result ≡ first_of Done (bare_checks d (lends memory.now area.now) untimely) }
+    ensures refused { IfErr result (λ v. refuses v ≡ true) }
 {
-    if !is_sized(d, memory, area) {
-        return Answer::Size;
-    }
+    check(is_sized(d, memory, area), Answer::Size)?;
     last(d, untimely)
 }
 
 // And of one with clocks. `fits` tells that they are few enough and have room.
+#[tactic(auto, using(crate::specs::Laws::sized_reach, crate::specs::Laws::sampled_all))]
 pub fn clocked(
     d: Device,
     memory: &[u8],
@@ -126,17 +117,11 @@ pub fn clocked(
     samples: &[u8],
     fits: bool,
     untimely: bool,
-) -> Answer
-    ensures { result ≡ first_of Done (clock_checks d (lends memory.now area.now) samples.now fits untimely) }
+) -> Result<(), Answer>
+    ensures verdict { told result ≡ first_of Done (clock_checks d (lends memory.now area.now) samples.now fits untimely) }
+    ensures refused { IfErr result (λ v. refuses v ≡ true) }
 {
-    if !is_sized(d, memory, area) {
-        return Answer::Size;
-    }
-    if !fits {
-        return Answer::Size;
-    }
-    if !is_sampled(samples) {
-        return Answer::Sample;
-    }
+    check(is_sized(d, memory, area) && fits, Answer::Size)?;
+    check(is_sampled(samples), Answer::Sample)?;
     last(d, untimely)
 }

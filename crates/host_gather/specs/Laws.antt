@@ -1,6 +1,7 @@
 -- Laws of collecting: what each sample adds, and the bytes clock by clock.
 -- Assumes nothing.
-use Rattle.std.specs.Prelude.{◌≡◌, ℕ, suc, ◌+◌, ◌/◌, ◌%◌, ◌<◌, ◌≤◌, Bool, true, false, cond, not, ◌&&◌, ◌||◌, eqb, get_or, drop, count_by}
+use Rattle.std.specs.Prelude.{◌≡◌, ℕ, suc, ◌+◌, ◌/◌, ◌%◌, ◌<◌, ◌≤◌, Bool, true, false, cond, not, ◌&&◌, eqb, get_or, drop, count_by}
+use Rattle.std.specs.List.{list_any}
 use Rattle.std.proofs.Math.Path.{refl, ap}
 use Rattle.std.proofs.Math.Numerals.{one-add}
 use Rattle.std.proofs.Common.{sym, ◌∙◌, length-append, drop_of_length-le, take_at, drop_at}
@@ -38,30 +39,20 @@ module _ (w : Wires) (xs : List ℕ) (i : ℕ) where
   unfolding seen_in
   seen_skip h e = rw (drop_one xs i h, eq-eqb x 0 e)
 
-  pub strange_skip : i < length xs → x ≡ 0 → strange w (drop i xs) ≡ strange w (drop (i + 1) xs)
-  unfolding strange
-  strange_skip h e = rw (drop_one xs i h, eq-eqb x 0 e)
-
   -- driven
   pub seen_more : i < length xs → (x ≡ 0 → ⊥) → seen_in w (drop i xs) ≡ seen_of w x ∷ seen_in w (drop (i + 1) xs)
   unfolding seen_in
   seen_more h n = rw (drop_one xs i h, ne_eqb x 0 n)
 
-  pub strange_on : i < length xs → (x ≡ 0 → ⊥) → driven_of w x ≡ true → strange w (drop i xs) ≡ strange w (drop (i + 1) xs)
-  unfolding strange
-  strange_on h n e = rw (drop_one xs i h, ne_eqb x 0 n, e)
-
-  pub strange_stop : i < length xs → (x ≡ 0 → ⊥) → driven_of w x ≡ false → strange w (drop i xs) ≡ true
-  unfolding strange
-  strange_stop h n e = rw (drop_one xs i h, ne_eqb x 0 n, e)
-
   pub seen_end : length xs ≤ i → seen_in w (drop i xs) ≡ []
   unfolding seen_in
   seen_end h = rw (drop_of_length-le xs h)
 
-  pub strange_end : length xs ≤ i → strange w (drop i xs) ≡ false
-  unfolding strange
-  strange_end h = rw (drop_of_length-le xs h)
+-- some sample is strange
+pub strange_any : (w : Wires) (xs : List ℕ) → list_any (λ x. not (eqb x 0) && not (driven_of w x)) xs ≡ strange w xs
+unfolding strange
+strange_any w [] = refl
+strange_any w (x ∷ xs) = rw (strange_any w xs)
 
 -- ---- how many
 -- the driven ones are those that are not silent

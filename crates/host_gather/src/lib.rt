@@ -25,12 +25,7 @@ fn is_wires(n: u8) -> bool
 fn is_strange(w: Wires, driven: &[u8]) -> bool
     ensures { result ≡ strange w driven.now }
 {
-    for x in driven {
-        if *x != 0 && !is_driven(*x, w) {
-            return true;
-        }
-    }
-    false
+    driven.iter().any(|x| *x != 0 && !is_driven(*x, w))
 }
 
 // The clocks in which it drives: all but the silent ones.

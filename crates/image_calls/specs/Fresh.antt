@@ -1,5 +1,5 @@
 -- Fresh chips, as images (D48).
-use Rattle.std.specs.Prelude.{ℕ, Bool, cond, ◌&&◌, List, eqb, length, replicate}
+use Rattle.std.specs.Prelude.{ℕ, Bool, cond, ◌&&◌, List, eqb, length, replicate, Result, Ok, Err}
 use Rattle.parts.specs.declared.Part.{Part}
 use Rattle.parts.specs.declared.Part.TheVariants.{M, P, M32}
 use Rattle.parts.specs.Parts.{offered}
@@ -16,6 +16,11 @@ pub record Made : Type 0 where
 
 abbrev pub made_as : Answer → List ℕ → Made
 made_as v image = record { answer = v; image = image }
+
+-- what a call answers, and the buffer as it leaves it: the error is the answer that refuses
+abbrev pub made_in : Result (Unit {0}) Answer → List ℕ → Made
+made_in (Ok u) image = made_as Done image
+made_in (Err v) image = made_as v image
 
 -- 3 for a buffer that has not an image's length, 1 for anything asked for that no chip has; the buffer is then as it was
 abbrev pub made : Bool → Device → List ℕ → Made

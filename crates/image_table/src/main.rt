@@ -3,223 +3,116 @@
 #![tactic(auto)]
 
 use image::{Field, IMAGE, offset_of, size_of};
-use text::{flush, put_all, put_decimal};
+use std::fmt;
+use std::fmt::Write;
+use text::{Page, flush};
 
-// Which of the two is printed.
-#[derive(Clone, Copy)]
-enum Form {
-    Page,
-    Header,
-}
-
-// Where a field stands: the first two cells of its row.
-fn put_place(page: &mut [u8], f: Field) -> usize {
-    let a = put_all(page, 0, b"| ");
-    let b = put_decimal(page, a, offset_of(f) as u64);
-    let c = put_all(page, b, b" | ");
-    let d = put_decimal(page, c, size_of(f) as u64);
-    put_all(page, d, b" | ")
-}
+// The fields in their order, each with its name and its word in C; spare bytes have no word.
+const FIELDS: [(Field, &str, Option<&str>); 27] = [
+    (Field::Part, "part", Some("PART")),
+    (Field::N, "n", Some("N")),
+    (Field::BesideMake, "spare", None),
+    (Field::Status, "status", Some("STATUS")),
+    (
+        Field::AreaProtection,
+        "area protection",
+        Some("AREA_PROTECTION"),
+    ),
+    (
+        Field::Configuration1,
+        "configuration 1",
+        Some("CONFIGURATION_1"),
+    ),
+    (
+        Field::Configuration2,
+        "configuration 2",
+        Some("CONFIGURATION_2"),
+    ),
+    (
+        Field::Configuration3,
+        "configuration 3",
+        Some("CONFIGURATION_3"),
+    ),
+    (
+        Field::Configuration4,
+        "configuration 4",
+        Some("CONFIGURATION_4"),
+    ),
+    (Field::ModeRegister, "mode register", Some("MODE_REGISTER")),
+    (Field::BusMode, "bus mode", Some("BUS_MODE")),
+    (Field::Latch, "latch, a flag", Some("LATCH")),
+    (Field::Armed, "armed, a flag", Some("ARMED")),
+    (Field::Asleep, "asleep, a flag", Some("ASLEEP")),
+    (Field::Toggle, "toggle, a flag", Some("TOGGLE")),
+    (
+        Field::DeviceIdentity,
+        "device identity",
+        Some("DEVICE_IDENTITY"),
+    ),
+    (Field::UniqueNumber, "unique number", Some("UNIQUE_NUMBER")),
+    (Field::SerialNumber, "serial number", Some("SERIAL_NUMBER")),
+    (Field::BesideIdentities, "spare", None),
+    (
+        Field::Selected,
+        "selected: a transaction is open, a flag",
+        Some("SELECTED"),
+    ),
+    (Field::Opcode, "its opcode", Some("OPCODE")),
+    (Field::BesideOpcode, "spare", None),
+    (Field::Clocks, "its clocks so far", Some("CLOCKS")),
+    (Field::Address, "its address", Some("ADDRESS")),
+    (
+        Field::Number,
+        "the number that is being gathered",
+        Some("NUMBER"),
+    ),
+    (
+        Field::Value,
+        "the bytes of a register write so far",
+        Some("VALUE"),
+    ),
+    (Field::BesideValue, "spare", None),
+];
 
 // A row of the table.
-fn page_row(page: &mut [u8], f: Field, name: &[u8], word: &[u8]) {
-    let a = put_place(page, f);
-    let b = put_all(page, a, name);
-    let c = put_all(page, b, b" | `TONDRAVIK_AT_");
-    let d = put_all(page, c, word);
-    let e = put_all(page, d, b"` |\n");
-    flush(page, e);
+fn page_row(page: &mut Page, f: Field, name: &str, word: Option<&str>) -> fmt::Result {
+    write!(page, "| {} | {} | {name} |", offset_of(f), size_of(f))?;
+    if let Some(word) = word {
+        write!(page, " `TONDRAVIK_AT_{word}`")?;
+    }
+    writeln!(page, " |")?;
+    flush(page);
+    Ok(())
 }
 
 // A line of the header.
-fn header_row(page: &mut [u8], f: Field, word: &[u8]) {
-    let a = put_all(page, 0, b"    TONDRAVIK_AT_");
-    let b = put_all(page, a, word);
-    let c = put_all(page, b, b" = ");
-    let d = put_decimal(page, c, offset_of(f) as u64);
-    let e = put_all(page, d, b",\n");
-    flush(page, e);
+fn header_row(page: &mut Page, f: Field, word: &str) -> fmt::Result {
+    writeln!(page, "    TONDRAVIK_AT_{word} = {},", offset_of(f))?;
+    flush(page);
+    Ok(())
 }
 
-fn field(page: &mut [u8], form: Form, f: Field, name: &[u8], word: &[u8]) {
-    match form {
-        Form::Page => page_row(page, f, name, word),
-        Form::Header => header_row(page, f, word),
+// The table, and the lines for the header; the number of all bytes is the last.
+fn put_tables(page: &mut Page) -> fmt::Result {
+    write!(
+        page,
+        "| offset | bytes | field | in C |\n|---|---|---|---|\n"
+    )?;
+    for (f, name, word) in FIELDS {
+        page_row(page, f, name, word)?;
     }
-}
-
-// Spare bytes have no word in C.
-fn spare(page: &mut [u8], form: Form, f: Field) {
-    match form {
-        Form::Page => {
-            let a = put_place(page, f);
-            let b = put_all(page, a, b"spare | |\n");
-            flush(page, b);
+    for (f, _, word) in FIELDS {
+        if let Some(word) = word {
+            header_row(page, f, word)?;
         }
-        Form::Header => {}
     }
-}
-
-fn registers(page: &mut [u8], form: Form) {
-    field(page, form, Field::Status, b"status", b"STATUS");
-    field(
-        page,
-        form,
-        Field::AreaProtection,
-        b"area protection",
-        b"AREA_PROTECTION",
-    );
-}
-
-fn configurations(page: &mut [u8], form: Form) {
-    field(
-        page,
-        form,
-        Field::Configuration1,
-        b"configuration 1",
-        b"CONFIGURATION_1",
-    );
-    field(
-        page,
-        form,
-        Field::Configuration2,
-        b"configuration 2",
-        b"CONFIGURATION_2",
-    );
-    field(
-        page,
-        form,
-        Field::Configuration3,
-        b"configuration 3",
-        b"CONFIGURATION_3",
-    );
-    field(
-        page,
-        form,
-        Field::Configuration4,
-        b"configuration 4",
-        b"CONFIGURATION_4",
-    );
-}
-
-fn modes(page: &mut [u8], form: Form) {
-    field(
-        page,
-        form,
-        Field::ModeRegister,
-        b"mode register",
-        b"MODE_REGISTER",
-    );
-    field(page, form, Field::BusMode, b"bus mode", b"BUS_MODE");
-}
-
-fn flags(page: &mut [u8], form: Form) {
-    field(page, form, Field::Latch, b"latch, a flag", b"LATCH");
-    field(page, form, Field::Armed, b"armed, a flag", b"ARMED");
-    field(page, form, Field::Asleep, b"asleep, a flag", b"ASLEEP");
-    field(page, form, Field::Toggle, b"toggle, a flag", b"TOGGLE");
-}
-
-fn identities(page: &mut [u8], form: Form) {
-    field(
-        page,
-        form,
-        Field::DeviceIdentity,
-        b"device identity",
-        b"DEVICE_IDENTITY",
-    );
-    field(
-        page,
-        form,
-        Field::UniqueNumber,
-        b"unique number",
-        b"UNIQUE_NUMBER",
-    );
-    field(
-        page,
-        form,
-        Field::SerialNumber,
-        b"serial number",
-        b"SERIAL_NUMBER",
-    );
-    spare(page, form, Field::BesideIdentities);
-}
-
-fn underway(page: &mut [u8], form: Form) {
-    field(
-        page,
-        form,
-        Field::Selected,
-        b"selected: a transaction is open, a flag",
-        b"SELECTED",
-    );
-    field(page, form, Field::Opcode, b"its opcode", b"OPCODE");
-    spare(page, form, Field::BesideOpcode);
-}
-
-fn facts(page: &mut [u8], form: Form) {
-    field(page, form, Field::Clocks, b"its clocks so far", b"CLOCKS");
-    field(page, form, Field::Address, b"its address", b"ADDRESS");
-    field(
-        page,
-        form,
-        Field::Number,
-        b"the number that is being gathered",
-        b"NUMBER",
-    );
-    field(
-        page,
-        form,
-        Field::Value,
-        b"the bytes of a register write so far",
-        b"VALUE",
-    );
-    spare(page, form, Field::BesideValue);
-}
-
-fn make(page: &mut [u8], form: Form) {
-    field(page, form, Field::Part, b"part", b"PART");
-    field(page, form, Field::N, b"n", b"N");
-    spare(page, form, Field::BesideMake);
-}
-
-// What a chip is without a transaction.
-fn bare(page: &mut [u8], form: Form) {
-    make(page, form);
-    registers(page, form);
-    configurations(page, form);
-    modes(page, form);
-    flags(page, form);
-}
-
-fn rows(page: &mut [u8], form: Form) {
-    bare(page, form);
-    identities(page, form);
-    underway(page, form);
-    facts(page, form);
-}
-
-fn head(page: &mut [u8]) {
-    let a = put_all(
-        page,
-        0,
-        b"| offset | bytes | field | in C |\n|---|---|---|---|\n",
-    );
-    flush(page, a);
-}
-
-// The number of all bytes.
-fn last(page: &mut [u8]) {
-    let a = put_all(page, 0, b"    TONDRAVIK_IMAGE = ");
-    let b = put_decimal(page, a, IMAGE as u64);
-    let c = put_all(page, b, b"\n");
-    flush(page, c);
+    writeln!(page, "    TONDRAVIK_IMAGE = {IMAGE}")?;
+    flush(page);
+    Ok(())
 }
 
 fn main() {
-    let mut page = [0u8; 256];
-    head(&mut page);
-    rows(&mut page, Form::Page);
-    rows(&mut page, Form::Header);
-    last(&mut page);
+    let mut buffer = [0; 256];
+    let mut page = Page::begun(&mut buffer, 0);
+    let _ = put_tables(&mut page);
 }

@@ -76,7 +76,8 @@ pub enum Target {
     Area,
 }
 
-// What a command does, in four cases (D58).
+// What a command does, in four cases (D58). That there is no such command is one of them, and no Option around the others: the
+// decision and the table of answers are stated of it (`unknown_outside`, `unknown`).
 #[derive(Clone, Copy, PartialEq, Eq)]
 pub enum Kind {
     Unknown,

@@ -1,186 +1,104 @@
 // The paragraph of a record: what it is, its clocks and data, what it changed, and its answer.
 #![tactic(auto)]
 
-use counts::Counts;
 use list_answers::{put_answer, put_rule};
-use list_changes::{following, put_device, put_places};
+use list_changes::{put_device, put_places};
 use list_clocks::{put_counts, put_data};
-use list_names::put_part;
 use list_rows::{put_bytes, put_clocks};
 use list_views::{View, view_of};
 use parts::Part;
 use record::{Answer, Device, Make, Outcome};
-use tape::{Entry, Found};
-use text::{put_all, put_decimal};
+use std::fmt;
+use std::fmt::Write;
+use tape::Entry;
+use text::Page;
 use units::{Bytes, Clocks};
 
+// A chip at a moment: its record, and the bytes that it has.
+#[derive(Clone, Copy)]
+pub struct State<'a> {
+    pub device: Device,
+    pub memory: &'a [u8],
+    pub area: &'a [u8],
+}
+
 // The front of a record's line: its number and offset.
-pub fn put_head(page: &mut [u8], at: usize, k: u64, offset: usize) -> usize {
-    let a = put_all(page, at, b"\nrecord ");
-    let b = put_decimal(page, a, following(k));
-    let c = put_all(page, b, b", offset ");
-    let d = put_decimal(page, c, offset as u64);
-    put_all(page, d, b": ")
+pub fn put_head(page: &mut Page, k: u64, offset: usize) -> fmt::Result {
+    write!(page, "\nrecord {k}, offset {offset}: ")
 }
 
-fn put_chip(page: &mut [u8], at: usize, make: Make) -> usize {
-    let a = put_all(page, at, b"fresh chip, ");
-    let b = put_part(page, a, Part::of(make.part));
-    let c = put_all(page, b, b", n = ");
-    let d = put_decimal(page, c, make.n as u64);
-    put_all(page, d, b"\n")
+fn put_chip(page: &mut Page, make: Make) -> fmt::Result {
+    writeln!(page, "fresh chip, {}, n = {}", Part::of(make.part), make.n)
 }
 
-fn put_sizes(page: &mut [u8], at: usize, memory: Bytes, area: Bytes) -> usize {
-    let a = put_all(page, at, b"  memory    ");
-    let b = put_bytes(page, a, memory);
-    let c = put_all(page, b, b"\n  area      ");
-    let d = put_bytes(page, c, area);
-    put_all(page, d, b"\n")
+fn put_sizes(page: &mut Page, memory: Bytes, area: Bytes) -> fmt::Result {
+    page.write_str("  memory    ")?;
+    put_bytes(page, memory)?;
+    page.write_str("\n  area      ")?;
+    put_bytes(page, area)?;
+    writeln!(page)
 }
 
 // A fresh chip, and the bytes that it has.
-fn put_fresh(page: &mut [u8], at: usize, make: Make, memory: &[u8], area: &[u8]) -> usize {
-    let a = put_chip(page, at, make);
-    let b = put_sizes(page, a, Bytes::of_store(memory), Bytes::of_store(area));
-    let c = put_answer(page, b, Answer::Done);
-    put_all(
-        page,
-        c,
-        b"the chip is in the socket, with zero memory, area and identity.\n",
-    )
+fn put_fresh(page: &mut Page, make: Make, new: State) -> fmt::Result {
+    put_chip(page, make)?;
+    put_sizes(page, Bytes::of_store(new.memory), Bytes::of_store(new.area))?;
+    put_answer(page, Answer::Done)?;
+    page.write_str("the chip is in the socket, with zero memory, area and identity.\n")
 }
 
 // What a record changed in the chip and in the bytes that it has.
-fn put_changes(
-    page: &mut [u8],
-    at: usize,
-    old: Device,
-    new: Device,
-    memory0: &[u8],
-    memory: &[u8],
-    area0: &[u8],
-    area: &[u8],
-) -> usize {
-    let a = put_device(page, at, old, new);
-    let b = put_places(page, a, b"memory ", memory0, memory);
-    put_places(page, b, b"area   ", area0, area)
+fn put_changes(page: &mut Page, old: State, new: State) -> fmt::Result {
+    put_device(page, old.device, new.device)?;
+    put_places(page, "memory", old.memory, new.memory)?;
+    put_places(page, "area", old.area, new.area)
 }
 
-fn put_power(
-    page: &mut [u8],
-    at: usize,
-    d: Device,
-    o: Outcome,
-    memory0: &[u8],
-    memory: &[u8],
-    area0: &[u8],
-    area: &[u8],
-) -> usize {
-    let answer = o.answer;
-    let device = o.device;
-    let a = put_all(page, at, b"power cycle\n");
-    let b = put_changes(page, a, d, device, memory0, memory, area0, area);
-    let c = put_answer(page, b, answer);
-    put_all(page, c, b"the power was off and is on again.\n")
+fn put_power(page: &mut Page, old: State, new: State, answer: Answer) -> fmt::Result {
+    page.write_str("power cycle\n")?;
+    put_changes(page, old, new)?;
+    put_answer(page, answer)?;
+    page.write_str("the power was off and is on again.\n")
 }
 
 // The line of a transaction, and the rows on its clocks.
-fn put_clocked(
-    page: &mut [u8],
-    at: usize,
-    v: View,
-    c: Counts,
-    answer: Answer,
-    samples: &[u8],
-    output: &[u8],
-) -> usize {
-    let a = put_all(page, at, b"transaction, ");
-    let b = put_clocks(page, a, Clocks::of_samples(samples), 0);
-    let d = put_all(page, b, b"\n");
-    let e = put_counts(page, d, v, c);
-    put_data(page, e, v, c, answer, samples, output)
+fn put_clocked(page: &mut Page, v: View, o: Outcome, samples: &[u8], output: &[u8]) -> fmt::Result {
+    page.write_str("transaction, ")?;
+    put_clocks(page, Clocks::of_samples(samples), 0)?;
+    writeln!(page)?;
+    put_counts(page, v, o.counts)?;
+    put_data(page, v, o.counts, o.answer, samples, output)
 }
 
 fn put_transaction(
-    page: &mut [u8],
-    at: usize,
-    d: Device,
+    page: &mut Page,
+    old: State,
+    new: State,
     o: Outcome,
     samples: &[u8],
     output: &[u8],
-    memory0: &[u8],
-    memory: &[u8],
-    area0: &[u8],
-    area: &[u8],
-) -> usize {
-    let answer = o.answer;
-    let counts = o.counts;
-    let device = o.device;
-    let v = view_of(d, counts, samples);
-    let a = put_clocked(page, at, v, counts, answer, samples, output);
-    let b = put_changes(page, a, d, device, memory0, memory, area0, area);
-    let c = put_answer(page, b, answer);
-    put_rule(page, c, v, samples, answer)
+) -> fmt::Result {
+    let v = view_of(old.device, o.counts, samples);
+    put_clocked(page, v, o, samples, output)?;
+    put_changes(page, old, new)?;
+    put_answer(page, o.answer)?;
+    put_rule(page, v, samples, o.answer)
 }
 
-// The same for a transaction whose samples stand on the tape from one place to another.
-fn put_transaction_at(
-    page: &mut [u8],
-    at: usize,
-    d: Device,
-    o: Outcome,
-    tape: &[u8],
-    from: usize,
-    next: usize,
-    output: &[u8],
-    memory0: &[u8],
-    memory: &[u8],
-    area0: &[u8],
-    area: &[u8],
-) -> usize {
-    if tape.len() < next {
-        return at;
-    }
-    if next < from {
-        return at;
-    }
-    put_transaction(
-        page,
-        at,
-        d,
-        o,
-        &tape[from..next],
-        output,
-        memory0,
-        memory,
-        area0,
-        area,
-    )
-}
-
-// The paragraph of the record found, after its line's front. `d` is the chip before it.
+// The paragraph of a record that was played, after its line's front: what it was, the chip before it and after it, and what that
+// answered, and of a transaction its samples and its output.
 pub fn put_played(
-    page: &mut [u8],
-    at: usize,
-    d: Device,
-    f: Found,
+    page: &mut Page,
+    e: Entry,
+    old: State,
+    new: State,
     o: Outcome,
-    tape: &[u8],
+    samples: &[u8],
     output: &[u8],
-    memory0: &[u8],
-    memory: &[u8],
-    area0: &[u8],
-    area: &[u8],
-) -> usize {
-    let e = f.entry;
+) -> fmt::Result {
     match e {
-        Entry::End => at,
-        Entry::Bad(_) => at,
-        Entry::Transaction => put_transaction_at(
-            page, at, d, o, tape, f.from, f.next, output, memory0, memory, area0, area,
-        ),
-        Entry::PowerCycle => put_power(page, at, d, o, memory0, memory, area0, area),
-        Entry::Fresh(make) => put_fresh(page, at, make, memory, area),
+        Entry::Transaction => put_transaction(page, old, new, o, samples, output),
+        Entry::PowerCycle => put_power(page, old, new, o.answer),
+        Entry::Fresh(make) => put_fresh(page, make, new),
     }
 }

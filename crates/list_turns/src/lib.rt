@@ -1,126 +1,91 @@
-// One record of a tape for people: played, and its paragraph put on the page.
+// The records of a tape for people: each is played, and its paragraph put on the page.
 #![tactic(auto)]
 
 use list_endings::put_last;
-use list_paragraphs::{put_head, put_played};
+use list_paragraphs::{State, put_head, put_played};
+use std::fmt;
+use tape::Chip;
+use tape_reader::Reader;
 use tape_session::{Session, Turn};
-use text::put_all;
-use units::Bytes;
+use text::Page;
 
-// What goes from record to record: the session, the place on the page, and whether to go on.
-#[derive(Clone, Copy)]
-pub struct State {
-    pub session: Session,
-    pub to: usize,
-    pub go: bool,
-}
+// Every record takes four bytes of the tape or more, so that there are no more turns than these.
+const TURNS: u64 = 16385;
 
-pub fn start(to: usize) -> State {
-    State {
-        session: tape_session::start(),
-        to,
-        go: true,
-    }
+// Memory and area for a chip, which has the front of them.
+#[derive(Drop)]
+pub struct Stores<'a> {
+    pub memory: &'a mut [u8],
+    pub area: &'a mut [u8],
 }
 
 // The first bytes as they are now.
-fn keep(old: &mut [u8], now: &[u8], size: Bytes) {
-    let till = size.in_bytes();
-    if till <= now.len() {
-        put_all(old, 0, &now[..till]);
+fn keep(old: &mut [u8], now: &[u8], size: usize) {
+    if let (Some(kept), Some(bytes)) = (old.get_mut(..size), now.get(..size)) {
+        kept.copy_from_slice(bytes);
     }
 }
 
-// A record played, and the chip's bytes as they were before it, to be compared with those after it.
-fn advance(
-    s: Session,
-    tape: &[u8],
-    memory: &mut [u8],
-    area: &mut [u8],
-    output: &mut [u8],
-    memory0: &mut [u8],
-    area0: &mut [u8],
-) -> Turn {
-    let size = s.socket.memory;
-    let edge = s.socket.area;
-    keep(memory0, memory, size);
-    keep(area0, area, edge);
-    tape_session::advance(s, tape, memory, area, output)
+impl Stores<'_> {
+    // Keeps the bytes of the chip in the socket, to be compared with those after the next record.
+    fn keep(&mut self, now: &Stores, s: Session) {
+        if let Some(chip) = s.chip {
+            keep(self.memory, now.memory, chip.socket.memory.in_bytes());
+            keep(self.area, now.area, chip.socket.area.in_bytes());
+        }
+    }
+
+    // A chip with its part of them.
+    fn state(&self, chip: Chip) -> Option<State<'_>> {
+        Some(State {
+            device: chip.device,
+            memory: self.memory.get(..chip.socket.memory.in_bytes())?,
+            area: self.area.get(..chip.socket.area.in_bytes())?,
+        })
+    }
 }
 
-// The paragraph of record `k`, which was played from `s`, on the chip's part of memory and area.
+// The paragraph of record `k`, which stands at a place of the tape and came to `t`.
 fn put_turn(
-    page: &mut [u8],
-    at: usize,
+    page: &mut Page,
     k: u64,
-    s: Session,
+    r: Reader,
     t: Turn,
-    tape: &[u8],
+    before: &Stores,
+    now: &Stores,
     output: &[u8],
-    memory0: &[u8],
-    memory: &[u8],
-    area0: &[u8],
-    area: &[u8],
-) -> usize {
-    let d = s.device;
-    let o = t.outcome;
-    let next = t.session;
-    let memory_size = next.socket.memory;
-    let area_size = next.socket.area;
-    let size = memory_size.in_bytes();
-    let edge = area_size.in_bytes();
-    if memory.len() < size {
-        return at;
-    }
-    if area.len() < edge {
-        return at;
-    }
-    let f = tape::entry_at(tape, s.at);
-    let a = put_head(page, at, k, s.at);
-    put_played(
-        page,
-        a,
-        d,
-        f,
-        o,
-        tape,
-        output,
-        memory0,
-        &memory[..size],
-        area0,
-        &area[..edge],
-    )
+) -> fmt::Result {
+    let after = Chip {
+        device: t.outcome.device,
+        ..t.chip
+    };
+    let (Some(old), Some(new)) = (before.state(t.chip), now.state(after)) else {
+        return Ok(());
+    };
+    put_head(page, k, r.at)?;
+    put_played(page, t.entry, old, new, t.outcome, r.payload(), output)
 }
 
-// Record `k`, number 0 the first.
-pub fn turn(
-    st: State,
-    k: u64,
+// Every record, to the end or to one that is bad. `before` has room for the bytes as they were before a record.
+pub fn put_turns(
+    page: &mut Page,
     tape: &[u8],
-    memory: &mut [u8],
-    area: &mut [u8],
+    now: &mut Stores,
+    before: &mut Stores,
     output: &mut [u8],
-    memory0: &mut [u8],
-    area0: &mut [u8],
-    page: &mut [u8],
-) -> State {
-    let s = st.session;
-    let t = advance(s, tape, memory, area, output, memory0, area0);
-    let e = t.entry;
-    let next = t.session;
-    if !t.good {
-        return State {
-            session: next,
-            to: put_last(page, st.to, k, e, tape, s.at),
-            go: false,
-        };
+) -> fmt::Result {
+    let mut session = tape_session::start();
+    for k in 0..TURNS {
+        before.keep(now, session);
+        match tape_session::advance(session, tape, now.memory, now.area, output) {
+            Ok(turn) => {
+                let reader = Reader::opened(tape, session.at);
+                put_turn(page, k + 1, reader, turn, before, now, output)?;
+                text::flush_full(page);
+                session = turn.session;
+            }
+            Err(why) => return put_last(page, k, why, tape, session.at),
+        }
     }
-    let a = put_turn(
-        page, st.to, k, s, t, tape, output, memory0, memory, area0, area,
-    );
-    State {
-        session: next,
-        to: text::flush_full(page, a),
-        go: true,
-    }
+    Ok(())
 }

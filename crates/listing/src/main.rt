@@ -2,73 +2,57 @@
 // and why it is answered so.
 #![tactic(auto)]
 
-use list_turns::{start, turn};
+use list_rows::put_bytes;
+use list_turns::{Stores, put_turns};
 use parts::LARGEST_AREA;
+use std::fmt;
+use std::fmt::Write;
 use tape::LARGEST_MEMORY;
-use text::put_all;
+use tape_input::NoTape;
+use text::Page;
 use units::Bytes;
 
-// Every record, to the end or to one that is bad. A tape has no more than 16,384.
-fn run(
-    tape: &[u8],
-    memory: &mut [u8],
-    area: &mut [u8],
-    output: &mut [u8],
-    memory0: &mut [u8],
-    area0: &mut [u8],
-    page: &mut [u8],
-    to: usize,
-) {
-    let mut st = start(to);
-    let mut k = 0;
-    while k < 16385 && st.go {
-        let before = k;
-        k += 1;
-        st = turn(st, before, tape, memory, area, output, memory0, area0, page);
-    }
-    text::flush(page, st.to);
-}
-
 // The tape's own line.
-fn put_tape(page: &mut [u8], bytes: Bytes) -> usize {
-    let a = put_all(page, 0, b"tape of ");
-    let b = list_rows::put_bytes(page, a, bytes);
-    put_all(page, b, b"\n")
+fn put_tape(page: &mut Page, tape: &[u8]) -> fmt::Result {
+    page.write_str("tape of ")?;
+    put_bytes(page, Bytes::of_store(tape))?;
+    writeln!(page)
 }
 
-fn list(tape: &[u8]) {
+fn list(tape: &[u8]) -> fmt::Result {
     let mut memory = [0u8; LARGEST_MEMORY];
     let mut area = [0u8; LARGEST_AREA];
     let mut output = io::buffer();
-    let mut memory0 = [0u8; LARGEST_MEMORY];
-    let mut area0 = [0u8; LARGEST_AREA];
-    let mut page = io::large_buffer();
-    let to = put_tape(&mut page, Bytes::of_store(tape));
-    run(
-        tape,
-        &mut memory,
-        &mut area,
-        &mut output,
-        &mut memory0,
-        &mut area0,
-        &mut page,
-        to,
-    );
+    let mut memory_before = [0u8; LARGEST_MEMORY];
+    let mut area_before = [0u8; LARGEST_AREA];
+    let mut room = io::large_buffer();
+    let mut now = Stores {
+        memory: &mut memory,
+        area: &mut area,
+    };
+    let mut before = Stores {
+        memory: &mut memory_before,
+        area: &mut area_before,
+    };
+    let mut page = Page::begun(&mut room, 0);
+    put_tape(&mut page, tape)?;
+    put_turns(&mut page, tape, &mut now, &mut before, &mut output)?;
+    text::flush(&mut page);
+    Ok(())
 }
 
 fn main(rt: HostRuntime) {
-    let fd = tape_input::opened(&rt);
-    if fd < 0 {
-        return;
+    let mut buffer = io::large_buffer();
+    match tape_input::taken(&rt, &mut buffer) {
+        Ok(tape) => {
+            let _ = list(tape);
+        }
+        Err(NoTape::TooLong) => {
+            io::write_all(
+                1,
+                b"The tape is over 65,536 bytes, and nothing of it is played.\n",
+            );
+        }
+        Err(NoTape::Unopened) => {}
     }
-    let mut tape = io::large_buffer();
-    let n = io::read_full(fd, &mut tape);
-    if tape_input::has_more(fd) {
-        io::write_all(
-            1,
-            b"The tape is over 65,536 bytes, and nothing of it is played.\n",
-        );
-        return;
-    }
-    list(&tape[..n]);
 }

@@ -48,7 +48,8 @@ pub fn shut_among(a: Aim, m: Bytes) -> Bytes
     shut
 }
 
-// A byte at a place, where the store has it.
+// A byte at a place, where the store has it. The place is tested: `get_mut` would tell nothing of the other bytes, and the clause
+// tells all of them.
 fn put(store: &mut [u8], place: usize, b: u8)
     ensures { store.new ≡ set store.old place b }
 {
@@ -57,7 +58,9 @@ fn put(store: &mut [u8], place: usize, b: u8)
     }
 }
 
-// Byte `i` of a write, stored.
+// Byte `i` of a write, stored. Memory and area are lent as two slices, here and in all that calls this: in a struct of the two each
+// function would have to promise besides that it hands the same two slices back, and the reads, which lend them shared, would need
+// a second struct, so it would be no plainer.
 #[tactic(auto, unfolding(paper::specs::Storing::put_at))]
 pub fn put_at(a: Aim, i: Bytes, b: u8, memory: &mut [u8], area: &mut [u8])
     requires { (a.setting.n ≤ 24) × (i.0 ≤ 65535) }

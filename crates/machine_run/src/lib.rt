@@ -23,12 +23,9 @@ pub fn feed(
 {
     let h = machine_phases::terms_of(d);
     let mut q = p;
-    let mut i = 0;
-    while i < samples.len() {
-        let x = samples[i];
+    for (i, x) in samples.iter().enumerate() {
         output[i] = drive(d, q, memory, area);
-        q = step(h, q, x, memory, area);
-        i += 1;
+        q = step(h, q, *x, memory, area);
     }
     q
 }

@@ -1,6 +1,6 @@
 -- The opcode decision. Document 01, "Commands of part M" and "Commands of part P": the rows stand in the papers' order, each with its opcode, its
 -- meaning and the bus modes in which the family has it. What no row has is unknown, answer 5 (D3).
-use Rattle.std.specs.Prelude.{ℕ, Bool, true, false, cond, List, [], ◌∷◌}
+use Rattle.std.specs.Prelude.{ℕ, Bool, true, false, cond, List, [], ◌∷◌, Option, Some, None}
 use Rattle.basis.specs.Rows.{look}
 use Rattle.units.specs.declared.Wires.{Wires}
 use Rattle.units.specs.declared.Wires.TheVariants as On
@@ -15,19 +15,19 @@ use Rattle.kinds.specs.declared.Target.TheVariants as Target
 use Rattle.kinds.specs.declared.Kind.{Kind}
 use Rattle.kinds.specs.declared.Kind.TheVariants.{Unknown, Plain, Read, Write}
 use Rattle.opcodes.specs.declared.Modes.{Modes}
+use Rattle.opcodes.specs.declared.Meaning.{Meaning}
 use Rattle.opcodes.specs.declared.Row.{Row}
-use Rattle.opcodes.specs.declared.Modes.TheVariants.{Never, One, Four, OneTwo, OneFour, TwoFour, Always}
+use Rattle.opcodes.specs.declared.Modes.TheVariants.{One, Four, OneTwo, OneFour, TwoFour, Always}
 
 -- a row's meaning and the bus modes in which the family has it
-pub record Meaning : Type 0 where
-  pub kind : Kind
-  pub modes : Modes
+abbrev pub entry : Kind → Modes → Option Meaning
+entry k m = Some (record { kind = k; modes = m })
 
-abbrev row : ℕ → Kind → Modes → ℕ × Meaning
-row opcode k m = (opcode, record { kind = k; modes = m })
+abbrev row : ℕ → Kind → Modes → ℕ × Option Meaning
+row opcode k m = (opcode, entry k m)
 
 -- The MRAM. The write commands' opcodes come from the makers' instruction tables (D1), and 02 works in every bus mode (D2).
-abbrev pub mram_rows : List (ℕ × Meaning)
+abbrev pub mram_rows : List (ℕ × Option Meaning)
 mram_rows =
     row 0x00 (Plain NoOperation) Always
     ∷ row 0x06 (Plain WriteEnable) Always
@@ -61,7 +61,7 @@ mram_rows =
     ∷ []
 
 -- The PSRAM, which has bus modes of one and of four wires.
-abbrev pub psram_rows : List (ℕ × Meaning)
+abbrev pub psram_rows : List (ℕ × Option Meaning)
 psram_rows =
     row 0x03 (Read (Source.Memory Reads.Plain)) One
     ∷ row 0x0B (Read (Source.Memory Reads.Fast)) OneFour
@@ -81,20 +81,16 @@ psram_rows =
     ∷ []
 
 -- the rows go by the family (D57)
-abbrev pub rows_of : Family → List (ℕ × Meaning)
+abbrev pub rows_of : Family → List (ℕ × Option Meaning)
 rows_of Mram = mram_rows
 rows_of Psram = psram_rows
 
--- what stands for an opcode that no row has (D3)
-abbrev pub no_meaning : Meaning
-no_meaning = record { kind = Unknown; modes = Never }
-
-unfoldable pub meaning_of : Family → ℕ → Meaning
-meaning_of f opcode = look no_meaning (rows_of f) opcode
+-- an opcode that no row has means nothing (D3)
+unfoldable pub meaning_of : Family → ℕ → Option Meaning
+meaning_of f opcode = look None (rows_of f) opcode
 
 -- the bus mode is one of the row's
 abbrev pub in_modes : Modes → Wires → Bool
-in_modes Never w = false
 in_modes Always w = true
 in_modes One On.One = true
 in_modes One On.Two = false
@@ -112,14 +108,19 @@ in_modes TwoFour On.One = false
 in_modes TwoFour On.Two = true
 in_modes TwoFour On.Four = true
 
-abbrev pub kind_in : Kind → Modes → Wires → Kind
-kind_in k m w = cond (in_modes m w) k Unknown
+-- and so it is one of an opcode's, if it has a row
+abbrev pub has_mode : Option Meaning → Wires → Bool
+has_mode None w = false
+has_mode (Some m) w = in_modes m.modes w
+
+abbrev pub kind_in : Option Meaning → Wires → Kind
+kind_in None w = Unknown
+kind_in (Some m) w = cond (in_modes m.modes w) m.kind Unknown
 
 -- THE DECISION: the kind of a command for family, bus mode and opcode
 abbrev pub kind_of : Family → Wires → ℕ → Kind
-kind_of f w opcode = kind_in (meaning_of f opcode).kind (meaning_of f opcode).modes w
+kind_of f w opcode = kind_in (meaning_of f opcode) w
 
 -- both families' entries of an opcode, side by side
 abbrev pub row_of : ℕ → Row
-row_of opcode =
-    record { mram = (meaning_of Mram opcode).kind; mram_modes = (meaning_of Mram opcode).modes; psram = (meaning_of Psram opcode).kind; psram_modes = (meaning_of Psram opcode).modes }
+row_of opcode = record { mram = meaning_of Mram opcode; psram = meaning_of Psram opcode }

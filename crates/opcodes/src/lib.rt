@@ -1,17 +1,16 @@
 // The decision over the opcode byte: the kind of a command for family and bus mode.
 #![tactic(auto)]
 
-ghost use Rattle.std.specs.Prelude.{◌≡◌};
-ghost use Rattle.opcodes.specs.Opcodes.{row_of, in_modes, kind_in, kind_of};
+ghost use Rattle.std.specs.Prelude.{◌≡◌, None};
+ghost use Rattle.opcodes.specs.Opcodes.{entry, row_of, in_modes, kind_of};
 
 use kinds::{Control, Kind, ReadForm, Register, Source, Target, WriteForm};
 use parts::Family;
 use units::Wires;
 
 // The bus modes, by their number of wires, in which a family has an opcode.
-#[derive(Clone, Copy)]
+#[derive(Clone, Copy, PartialEq, Eq)]
 pub enum Modes {
-    Never,
     One,
     Four,
     OneTwo,
@@ -20,243 +19,162 @@ pub enum Modes {
     Always,
 }
 
-// What an opcode is on the MRAM and on the PSRAM, and in which bus modes.
-#[derive(Clone, Copy)]
+// What an opcode is on a family that has it, and in which bus modes.
+#[derive(Clone, Copy, PartialEq, Eq)]
+pub struct Meaning {
+    pub kind: Kind,
+    pub modes: Modes,
+}
+
+// What an opcode is on the MRAM and on the PSRAM.
+#[derive(Clone, Copy, PartialEq, Eq)]
 pub struct Row {
-    pub mram: Kind,
-    pub mram_modes: Modes,
-    pub psram: Kind,
-    pub psram_modes: Modes,
+    pub mram: Option<Meaning>,
+    pub psram: Option<Meaning>,
+}
+
+// An entry of a row.
+fn entry(kind: Kind, modes: Modes) -> Option<Meaning>
+    ensures { result ≡ entry kind modes }
+{
+    Some(Meaning { kind, modes })
+}
+
+// The row of an opcode that the MRAM alone has, and of one that the PSRAM alone has.
+fn on_mram(kind: Kind, modes: Modes) -> Row
+    ensures { result ≡ record { mram = entry kind modes; psram = None } }
+{
+    Row {
+        mram: entry(kind, modes),
+        psram: None,
+    }
+}
+
+fn on_psram(kind: Kind, modes: Modes) -> Row
+    ensures { result ≡ record { mram = None; psram = entry kind modes } }
+{
+    Row {
+        mram: None,
+        psram: entry(kind, modes),
+    }
 }
 
 // Every opcode has its place here: the rows first, in the papers' order, and then the ranges that
 // neither family has.
+#[tactic(auto, unfolding(crate::specs::Opcodes::meaning_of))]
 fn row_of(opcode: u8) -> Row
     ensures { result ≡ row_of opcode }
 {
     match opcode {
-        0x00 => Row {
-            mram: Kind::Plain(Control::NoOperation),
-            mram_modes: Modes::Always,
-            psram: Kind::Unknown,
-            psram_modes: Modes::Never,
-        },
-        0x06 => Row {
-            mram: Kind::Plain(Control::WriteEnable),
-            mram_modes: Modes::Always,
-            psram: Kind::Unknown,
-            psram_modes: Modes::Never,
-        },
-        0x04 => Row {
-            mram: Kind::Plain(Control::WriteDisable),
-            mram_modes: Modes::Always,
-            psram: Kind::Unknown,
-            psram_modes: Modes::Never,
-        },
-        0x37 => Row {
-            mram: Kind::Plain(Control::ToTwo),
-            mram_modes: Modes::OneFour,
-            psram: Kind::Unknown,
-            psram_modes: Modes::Never,
-        },
+        0x00 => on_mram(Kind::Plain(Control::NoOperation), Modes::Always),
+        0x06 => on_mram(Kind::Plain(Control::WriteEnable), Modes::Always),
+        0x04 => on_mram(Kind::Plain(Control::WriteDisable), Modes::Always),
+        0x37 => on_mram(Kind::Plain(Control::ToTwo), Modes::OneFour),
         0x38 => Row {
-            mram: Kind::Plain(Control::ToFour),
-            mram_modes: Modes::OneTwo,
-            psram: Kind::Write(Target::Memory(WriteForm::Quad)),
-            psram_modes: Modes::OneFour,
+            mram: entry(Kind::Plain(Control::ToFour), Modes::OneTwo),
+            psram: entry(Kind::Write(Target::Memory(WriteForm::Quad)), Modes::OneFour),
         },
-        0xFF => Row {
-            mram: Kind::Plain(Control::ToOne),
-            mram_modes: Modes::TwoFour,
-            psram: Kind::Unknown,
-            psram_modes: Modes::Never,
-        },
-        0xB9 => Row {
-            mram: Kind::Plain(Control::Sleep),
-            mram_modes: Modes::Always,
-            psram: Kind::Unknown,
-            psram_modes: Modes::Never,
-        },
-        0xAB => Row {
-            mram: Kind::Plain(Control::Wake),
-            mram_modes: Modes::Always,
-            psram: Kind::Unknown,
-            psram_modes: Modes::Never,
-        },
+        0xFF => on_mram(Kind::Plain(Control::ToOne), Modes::TwoFour),
+        0xB9 => on_mram(Kind::Plain(Control::Sleep), Modes::Always),
+        0xAB => on_mram(Kind::Plain(Control::Wake), Modes::Always),
         0x66 => Row {
-            mram: Kind::Plain(Control::ResetEnable),
-            mram_modes: Modes::Always,
-            psram: Kind::Plain(Control::ResetEnable),
-            psram_modes: Modes::OneFour,
+            mram: entry(Kind::Plain(Control::ResetEnable), Modes::Always),
+            psram: entry(Kind::Plain(Control::ResetEnable), Modes::OneFour),
         },
         0x99 => Row {
-            mram: Kind::Plain(Control::Reset),
-            mram_modes: Modes::Always,
-            psram: Kind::Plain(Control::Reset),
-            psram_modes: Modes::OneFour,
+            mram: entry(Kind::Plain(Control::Reset), Modes::Always),
+            psram: entry(Kind::Plain(Control::Reset), Modes::OneFour),
         },
-        0x05 => Row {
-            mram: Kind::Read(Source::Register(Register::Status)),
-            mram_modes: Modes::Always,
-            psram: Kind::Unknown,
-            psram_modes: Modes::Never,
-        },
-        0x14 => Row {
-            mram: Kind::Read(Source::Register(Register::AreaProtection)),
-            mram_modes: Modes::Always,
-            psram: Kind::Unknown,
-            psram_modes: Modes::Never,
-        },
+        0x05 => on_mram(
+            Kind::Read(Source::Register(Register::Status)),
+            Modes::Always,
+        ),
+        0x14 => on_mram(
+            Kind::Read(Source::Register(Register::AreaProtection)),
+            Modes::Always,
+        ),
         0x35 => Row {
-            mram: Kind::Read(Source::Register(Register::Configuration1)),
-            mram_modes: Modes::Always,
-            psram: Kind::Plain(Control::ToFour),
-            psram_modes: Modes::One,
+            mram: entry(
+                Kind::Read(Source::Register(Register::Configuration1)),
+                Modes::Always,
+            ),
+            psram: entry(Kind::Plain(Control::ToFour), Modes::One),
         },
-        0x3F => Row {
-            mram: Kind::Read(Source::Register(Register::Configuration2)),
-            mram_modes: Modes::Always,
-            psram: Kind::Unknown,
-            psram_modes: Modes::Never,
-        },
-        0x44 => Row {
-            mram: Kind::Read(Source::Register(Register::Configuration3)),
-            mram_modes: Modes::Always,
-            psram: Kind::Unknown,
-            psram_modes: Modes::Never,
-        },
-        0x45 => Row {
-            mram: Kind::Read(Source::Register(Register::Configuration4)),
-            mram_modes: Modes::Always,
-            psram: Kind::Unknown,
-            psram_modes: Modes::Never,
-        },
-        0x46 => Row {
-            mram: Kind::Read(Source::Register(Register::Configurations)),
-            mram_modes: Modes::Always,
-            psram: Kind::Unknown,
-            psram_modes: Modes::Never,
-        },
+        0x3F => on_mram(
+            Kind::Read(Source::Register(Register::Configuration2)),
+            Modes::Always,
+        ),
+        0x44 => on_mram(
+            Kind::Read(Source::Register(Register::Configuration3)),
+            Modes::Always,
+        ),
+        0x45 => on_mram(
+            Kind::Read(Source::Register(Register::Configuration4)),
+            Modes::Always,
+        ),
+        0x46 => on_mram(
+            Kind::Read(Source::Register(Register::Configurations)),
+            Modes::Always,
+        ),
         0x9F => Row {
-            mram: Kind::Read(Source::Register(Register::Identity)),
-            mram_modes: Modes::Always,
-            psram: Kind::Read(Source::Identity),
-            psram_modes: Modes::One,
+            mram: entry(
+                Kind::Read(Source::Register(Register::Identity)),
+                Modes::Always,
+            ),
+            psram: entry(Kind::Read(Source::Identity), Modes::One),
         },
-        0x4C => Row {
-            mram: Kind::Read(Source::Register(Register::Unique)),
-            mram_modes: Modes::Always,
-            psram: Kind::Unknown,
-            psram_modes: Modes::Never,
-        },
-        0xC3 => Row {
-            mram: Kind::Read(Source::Register(Register::Serial)),
-            mram_modes: Modes::Always,
-            psram: Kind::Unknown,
-            psram_modes: Modes::Never,
-        },
-        0x65 => Row {
-            mram: Kind::Read(Source::Map),
-            mram_modes: Modes::Always,
-            psram: Kind::Unknown,
-            psram_modes: Modes::Never,
-        },
+        0x4C => on_mram(
+            Kind::Read(Source::Register(Register::Unique)),
+            Modes::Always,
+        ),
+        0xC3 => on_mram(
+            Kind::Read(Source::Register(Register::Serial)),
+            Modes::Always,
+        ),
+        0x65 => on_mram(Kind::Read(Source::Map), Modes::Always),
         0x03 => Row {
-            mram: Kind::Read(Source::Memory(ReadForm::Plain)),
-            mram_modes: Modes::One,
-            psram: Kind::Read(Source::Memory(ReadForm::Plain)),
-            psram_modes: Modes::One,
+            mram: entry(Kind::Read(Source::Memory(ReadForm::Plain)), Modes::One),
+            psram: entry(Kind::Read(Source::Memory(ReadForm::Plain)), Modes::One),
         },
-        0x4B => Row {
-            mram: Kind::Read(Source::Area),
-            mram_modes: Modes::One,
-            psram: Kind::Unknown,
-            psram_modes: Modes::Never,
-        },
-        0x01 => Row {
-            mram: Kind::Write(Target::Register(Register::Status)),
-            mram_modes: Modes::Always,
-            psram: Kind::Unknown,
-            psram_modes: Modes::Never,
-        },
-        0x87 => Row {
-            mram: Kind::Write(Target::Register(Register::Configurations)),
-            mram_modes: Modes::Always,
-            psram: Kind::Unknown,
-            psram_modes: Modes::Never,
-        },
-        0xC2 => Row {
-            mram: Kind::Write(Target::Register(Register::Serial)),
-            mram_modes: Modes::Always,
-            psram: Kind::Unknown,
-            psram_modes: Modes::Never,
-        },
-        0x1A => Row {
-            mram: Kind::Write(Target::Register(Register::AreaProtection)),
-            mram_modes: Modes::Always,
-            psram: Kind::Unknown,
-            psram_modes: Modes::Never,
-        },
+        0x4B => on_mram(Kind::Read(Source::Area), Modes::One),
+        0x01 => on_mram(
+            Kind::Write(Target::Register(Register::Status)),
+            Modes::Always,
+        ),
+        0x87 => on_mram(
+            Kind::Write(Target::Register(Register::Configurations)),
+            Modes::Always,
+        ),
+        0xC2 => on_mram(
+            Kind::Write(Target::Register(Register::Serial)),
+            Modes::Always,
+        ),
+        0x1A => on_mram(
+            Kind::Write(Target::Register(Register::AreaProtection)),
+            Modes::Always,
+        ),
         0x02 => Row {
-            mram: Kind::Write(Target::Memory(WriteForm::Plain)),
-            mram_modes: Modes::Always,
-            psram: Kind::Write(Target::Memory(WriteForm::Plain)),
-            psram_modes: Modes::OneFour,
+            mram: entry(Kind::Write(Target::Memory(WriteForm::Plain)), Modes::Always),
+            psram: entry(
+                Kind::Write(Target::Memory(WriteForm::Plain)),
+                Modes::OneFour,
+            ),
         },
-        0x42 => Row {
-            mram: Kind::Write(Target::Area),
-            mram_modes: Modes::One,
-            psram: Kind::Unknown,
-            psram_modes: Modes::Never,
-        },
-        0x0B => Row {
-            mram: Kind::Unknown,
-            mram_modes: Modes::Never,
-            psram: Kind::Read(Source::Memory(ReadForm::Fast)),
-            psram_modes: Modes::OneFour,
-        },
-        0xEB => Row {
-            mram: Kind::Unknown,
-            mram_modes: Modes::Never,
-            psram: Kind::Read(Source::Memory(ReadForm::Quad)),
-            psram_modes: Modes::OneFour,
-        },
-        0x8B => Row {
-            mram: Kind::Unknown,
-            mram_modes: Modes::Never,
-            psram: Kind::Read(Source::Memory(ReadForm::Wrapped)),
-            psram_modes: Modes::OneFour,
-        },
-        0x82 => Row {
-            mram: Kind::Unknown,
-            mram_modes: Modes::Never,
-            psram: Kind::Write(Target::Memory(WriteForm::Plain)),
-            psram_modes: Modes::OneFour,
-        },
-        0xB5 => Row {
-            mram: Kind::Unknown,
-            mram_modes: Modes::Never,
-            psram: Kind::Read(Source::Mode),
-            psram_modes: Modes::OneFour,
-        },
-        0xB1 => Row {
-            mram: Kind::Unknown,
-            mram_modes: Modes::Never,
-            psram: Kind::Write(Target::Mode),
-            psram_modes: Modes::OneFour,
-        },
-        0xF5 => Row {
-            mram: Kind::Unknown,
-            mram_modes: Modes::Never,
-            psram: Kind::Plain(Control::ToOne),
-            psram_modes: Modes::Four,
-        },
-        0xC0 => Row {
-            mram: Kind::Unknown,
-            mram_modes: Modes::Never,
-            psram: Kind::Plain(Control::Toggle),
-            psram_modes: Modes::OneFour,
-        },
+        0x42 => on_mram(Kind::Write(Target::Area), Modes::One),
+        0x0B => on_psram(Kind::Read(Source::Memory(ReadForm::Fast)), Modes::OneFour),
+        0xEB => on_psram(Kind::Read(Source::Memory(ReadForm::Quad)), Modes::OneFour),
+        0x8B => on_psram(
+            Kind::Read(Source::Memory(ReadForm::Wrapped)),
+            Modes::OneFour,
+        ),
+        0x82 => on_psram(
+            Kind::Write(Target::Memory(WriteForm::Plain)),
+            Modes::OneFour,
+        ),
+        0xB5 => on_psram(Kind::Read(Source::Mode), Modes::OneFour),
+        0xB1 => on_psram(Kind::Write(Target::Mode), Modes::OneFour),
+        0xF5 => on_psram(Kind::Plain(Control::ToOne), Modes::Four),
+        0xC0 => on_psram(Kind::Plain(Control::Toggle), Modes::OneFour),
         0x07..=0x0A
         | 0x0C..=0x13
         | 0x15..=0x19
@@ -281,10 +199,8 @@ fn row_of(opcode: u8) -> Row
         | 0xC4..=0xEA
         | 0xEC..=0xF4
         | 0xF6..=0xFE => Row {
-            mram: Kind::Unknown,
-            mram_modes: Modes::Never,
-            psram: Kind::Unknown,
-            psram_modes: Modes::Never,
+            mram: None,
+            psram: None,
         },
     }
 }
@@ -294,43 +210,13 @@ fn in_modes(m: Modes, w: Wires) -> bool
     ensures { result ≡ in_modes m w }
 {
     match m {
-        Modes::Never => false,
         Modes::Always => true,
-        Modes::One => match w {
-            Wires::One => true,
-            Wires::Two => false,
-            Wires::Four => false,
-        },
-        Modes::Four => match w {
-            Wires::One => false,
-            Wires::Two => false,
-            Wires::Four => true,
-        },
-        Modes::OneTwo => match w {
-            Wires::One => true,
-            Wires::Two => true,
-            Wires::Four => false,
-        },
-        Modes::OneFour => match w {
-            Wires::One => true,
-            Wires::Two => false,
-            Wires::Four => true,
-        },
-        Modes::TwoFour => match w {
-            Wires::One => false,
-            Wires::Two => true,
-            Wires::Four => true,
-        },
+        Modes::One => w == Wires::One,
+        Modes::Four => w == Wires::Four,
+        Modes::OneTwo => w != Wires::Four,
+        Modes::OneFour => w != Wires::Two,
+        Modes::TwoFour => w != Wires::One,
     }
-}
-
-fn kind_in(k: Kind, m: Modes, w: Wires) -> Kind
-    ensures { result ≡ kind_in k m w }
-{
-    if in_modes(m, w) {
-        return k;
-    }
-    Kind::Unknown
 }
 
 // The kind of a command: what the opcode means to this family, if it has it in this bus mode.
@@ -338,16 +224,12 @@ pub fn kind_of(family: Family, w: Wires, opcode: u8) -> Kind
     ensures { result ≡ kind_of family w opcode }
 {
     let row = row_of(opcode);
-    match family {
-        Family::Mram => {
-            let k = row.mram;
-            let m = row.mram_modes;
-            kind_in(k, m, w)
-        }
-        Family::Psram => {
-            let k = row.psram;
-            let m = row.psram_modes;
-            kind_in(k, m, w)
-        }
+    let meaning = match family {
+        Family::Mram => row.mram,
+        Family::Psram => row.psram,
+    };
+    match meaning {
+        Some(m) if in_modes(m.modes, w) => m.kind,
+        _ => Kind::Unknown,
     }
 }

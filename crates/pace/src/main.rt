@@ -4,48 +4,43 @@
 // the last one left. The second program prints the same.
 #![tactic(auto)]
 
-ghost use Rattle.io.specs.Counts.{IsPrefixLen};
-
-use bench_columns::digest_column;
+use bench_columns::{digest_column, room};
 use digits::number_in;
-use pace_calls::{Asked, build, chip, clocked_all, fill, gathered_all, total};
-use parts::{LARGEST_AREA, LARGEST_MEMORY, Part, PartM};
+use pace_calls::{Asked, What, answered, build, chip, fill, is_clocked, total};
+use parts::{LARGEST_AREA, LARGEST_MEMORY, Part};
 use places::memory_size;
-use record::Device;
+use record::mode_wires;
 use std::env::Env;
-use text::{flush, is_same, put, put_all, put_decimal};
+use std::fmt;
+use std::fmt::Write;
+use text::{Page, flush};
 use units::Clocks;
+use wires::level;
 
-fn what_in(word: &[u8]) -> u8 {
-    if is_same(word, b"read") {
-        return 1;
+fn what_in(word: &[u8]) -> Option<What> {
+    match word {
+        b"read" => Some(What::Read),
+        b"write" => Some(What::Write),
+        b"gather" => Some(What::Gather),
+        _ => None,
     }
-    if is_same(word, b"write") {
-        return 2;
-    }
-    if is_same(word, b"gather") {
-        return 3;
-    }
-    0
 }
 
-// How long word `i` of the command line is. One that is missing, or too long for the buffer, has no bytes.
-fn take_word(rt: &impl Env, i: usize, word: &mut [u8]) -> usize
-    ensures { IsPrefixLen result word.new }
-{
-    rt.arg(i, word).unwrap_or(0)
+// Word `i` of the command line. One that is missing, or too long for the buffer, has no bytes.
+fn word_at<'a>(rt: &impl Env, i: usize, buffer: &'a mut [u8]) -> &'a [u8] {
+    match rt.arg(i, buffer) {
+        Ok(n) => &buffer[..n],
+        Err(_) => &[],
+    }
 }
 
-fn what_at(rt: &impl Env, i: usize, word: &mut [u8]) -> u8 {
-    let n = take_word(rt, i, word);
-    what_in(&word[..n])
+// The number that word `i` of the command line is.
+fn number_at(rt: &impl Env, i: usize, buffer: &mut [u8], most: u32) -> Option<u32> {
+    number_in(word_at(rt, i, buffer), 10, most)
 }
 
-// The number that word `i` of the command line is. One that is missing or no number is 0.
-fn number_at(rt: &impl Env, i: usize, word: &mut [u8], most: u32) -> u32 {
-    let n = take_word(rt, i, word);
-    let number = number_in(&word[..n], 10, most);
-    number.value
+fn byte_at(rt: &impl Env, i: usize, buffer: &mut [u8], most: u8) -> Option<u8> {
+    u8::try_from(number_at(rt, i, buffer, u32::from(most))?).ok()
 }
 
 // The clocks of the longest run.
@@ -53,142 +48,99 @@ fn most_clocks() -> u32 {
     Clocks::longest().in_clocks() as u32
 }
 
-fn hear(rt: &impl Env, word: &mut [u8]) -> Asked {
-    Asked {
-        what: what_at(rt, 1, word),
-        wires: (number_at(rt, 2, word, 4) % 256) as u8,
-        clocks: number_at(rt, 3, word, most_clocks()),
-        repeats: number_at(rt, 4, word, 1000000),
-        n: (number_at(rt, 5, word, PartM::MOST as u32) % 256) as u8,
-        chunk: number_at(rt, 6, word, most_clocks()) as usize,
-    }
+// What the command line asks for. Repeats and n are 0 where they are missing, and so is the clocks of a chunk, which is none then.
+fn hear(rt: &impl Env, buffer: &mut [u8]) -> Option<Asked> {
+    Some(Asked {
+        what: what_in(word_at(rt, 1, buffer))?,
+        wires: byte_at(rt, 2, buffer, 4)?,
+        clocks: number_at(rt, 3, buffer, most_clocks())?,
+        repeats: number_at(rt, 4, buffer, 1000000).unwrap_or(0),
+        n: byte_at(rt, 5, buffer, Part::M.most()).unwrap_or(0),
+        chunk: number_at(rt, 6, buffer, most_clocks()).map(|n| n as usize),
+    })
 }
 
 // Whether there is such a run: a write needs some clocks behind its address.
 fn is_whole(a: Asked) -> bool {
-    if a.what == 0 {
-        return false;
-    }
-    if a.wires == 0 {
-        return false;
-    }
-    if a.wires == 3 {
-        return false;
-    }
-    if a.clocks < 64 {
-        return false;
-    }
-    if a.what == 3 {
-        return true;
-    }
-    PartM::LEAST <= a.n
+    matches!(a.wires, 1 | 2 | 4)
+        && 64 <= a.clocks
+        && (a.what == What::Gather || Part::M.least() <= a.n)
 }
 
 // The line of a run: its clocks, and digests of what was driven or gathered, and of the memory.
+fn put_line(page: &mut Page, clocks: u64, left: &[u8], memory: &[u8]) -> fmt::Result {
+    write!(page, "{clocks} clocks")?;
+    digest_column(page, left)?;
+    digest_column(page, memory)?;
+    writeln!(page)
+}
+
 fn tell(clocks: u64, left: &[u8], memory: &[u8]) {
-    let mut page = io::buffer();
-    let a = put_decimal(&mut page, 0, clocks);
-    let b = put_all(&mut page, a, b" clocks");
-    let c = digest_column(&mut page, b, left);
-    let d = digest_column(&mut page, c, memory);
-    let e = put(&mut page, d, b'\n');
-    flush(&page, e);
+    let mut buffer = io::buffer();
+    let mut page = Page::begun(&mut buffer, 0);
+    let _ = put_line(&mut page, clocks, left, memory);
+    flush(&mut page);
 }
 
 fn gather(a: Asked, driven: &mut [u8], bytes: &mut [u8]) {
-    fill(driven, a.wires);
-    let done = gathered_all(a.wires, a.repeats, driven, bytes);
+    let w = mode_wires(a.wires);
+    fill(driven, |x| level(x, w));
+    let done = answered(a.repeats, || host::gather(a.wires, driven, bytes).is_ok());
     tell(total(done, a.clocks), bytes, b"");
 }
 
-// The bursts on a chip whose area is lent as its part has it.
-fn clock_area(
-    d: Device,
-    chunk: usize,
-    repeats: u32,
-    memory: &mut [u8],
-    samples: &[u8],
-    output: &mut [u8],
-) -> u32 {
-    let mut area = [0u8; LARGEST_AREA];
-    let edge = Part::of(d.make.part).area().in_bytes();
-    if LARGEST_AREA < edge {
-        return 0;
-    }
-    clocked_all(
-        d,
-        chunk,
-        repeats,
-        memory,
-        &mut area[..edge],
-        samples,
-        output,
-    )
-}
-
+// The bursts, on a chip with so much memory and area as it has.
 fn clock(a: Asked, memory: &mut [u8], samples: &mut [u8], output: &mut [u8]) {
     let d = chip(a);
     let mut written = io::large_buffer();
-    fill(memory, 0);
+    let mut room = [0; LARGEST_AREA];
+    let Some(area) = room.get_mut(..Part::of(d.make.part).area().in_bytes()) else {
+        return;
+    };
+    fill(memory, |x| x);
     build(a, d.make.part, &mut written, samples);
-    let done = clock_area(d, a.chunk, a.repeats, memory, samples, output);
+    let done = answered(a.repeats, || {
+        is_clocked(d, a.chunk, memory, area, samples, output)
+    });
     tell(total(done, a.clocks), output, memory);
 }
 
 // The same with so much memory as the chip has.
 fn clock_sized(a: Asked, memory: &mut [u8], samples: &mut [u8], output: &mut [u8]) {
-    let n = a.n;
-    if PartM::MOST < n {
-        return;
+    if a.n <= Part::M.most() {
+        if let Some(memory) = memory.get_mut(..memory_size(a.n).in_bytes()) {
+            clock(a, memory, samples, output);
+        }
     }
-    let size = memory_size(n).in_bytes();
-    if memory.len() < size {
-        return;
-    }
-    clock(a, &mut memory[..size], samples, output);
 }
 
 // The run that is asked for, on so many samples as it has clocks.
 fn run(a: Asked, memory: &mut [u8], samples: &mut [u8], output: &mut [u8]) {
-    if a.what == 3 {
-        gather(a, samples, output);
-        return;
-    }
-    clock_sized(a, memory, samples, output);
-}
-
-fn run_sized(a: Asked, memory: &mut [u8], samples: &mut [u8], output: &mut [u8]) {
     let clocks = a.clocks as usize;
-    if samples.len() < clocks {
+    let Some(samples) = samples.get_mut(..clocks) else {
         return;
-    }
-    if output.len() < clocks {
+    };
+    let Some(output) = output.get_mut(..clocks) else {
         return;
+    };
+    match a.what {
+        What::Gather => gather(a, samples, output),
+        What::Read | What::Write => clock_sized(a, memory, samples, output),
     }
-    run(a, memory, &mut samples[..clocks], &mut output[..clocks]);
-}
-
-fn pace(rt: &impl Env, memory: &mut [u8], samples: &mut [u8], output: &mut [u8]) {
-    let mut word = io::buffer();
-    let a = hear(rt, &mut word);
-    if !is_whole(a) {
-        io::write_all(
-            2,
-            b"pace read|write|gather WIRES CLOCKS REPEATS [N [CHUNK]]: 1, 2 or 4 wires, 64 to 65535 clocks, n 10 to 21\n",
-        );
-        return;
-    }
-    run_sized(a, memory, samples, output);
-}
-
-// The largest memory that a chip has.
-fn largest() -> [u8; LARGEST_MEMORY] {
-    [0; LARGEST_MEMORY]
 }
 
 fn main(rt: HostRuntime) {
-    let mut memory = largest();
+    let mut memory = room::<LARGEST_MEMORY>();
     let mut samples = io::large_buffer();
     let mut output = io::large_buffer();
-    pace(&rt, &mut memory, &mut samples, &mut output);
+    let mut word = io::buffer();
+    match hear(&rt, &mut word) {
+        Some(a) if is_whole(a) => run(a, &mut memory, &mut samples, &mut output),
+        _ => {
+            io::write_all(
+                2,
+                b"pace read|write|gather WIRES CLOCKS REPEATS [N [CHUNK]]: 1, 2 or 4 wires, 64 to 65535 clocks, n 10 to 21\n",
+            );
+        }
+    }
 }

@@ -9,6 +9,7 @@ use Rattle.parts.specs.declared.Family.TheVariants.{Mram, Psram}
 use Rattle.parts.specs.declared.Part.{Part}
 use Rattle.parts.specs.declared.Part.TheVariants.{M, P, M32}
 use Rattle.parts.specs.declared.UnknownPart.{UnknownPart}
+use Rattle.parts.specs.declared.Limits.{Limits}
 
 -- Rules go by the family, limits by the part. What follows below and is not a limit (commands, latch, protection, groups, reset, power) asks the family (D57).
 abbrev pub family_of : Part → Family
@@ -66,3 +67,7 @@ abbrev pub wrap_codes : Part → ℕ
 wrap_codes M = 5
 wrap_codes P = 0
 wrap_codes M32 = 7
+
+-- all of them together: what the constants of the part's type say
+abbrev pub limits_of : Part → Limits
+limits_of p = record { least = least_of p; most = most_of p; area = (area_of p).0; section = (section_of p).0; wrap_codes = wrap_codes p }

@@ -3,11 +3,22 @@
 #![tactic(auto)]
 
 ghost use Rattle.std.specs.Prelude.{◌≡◌};
-ghost use Rattle.parts.specs.Parts.{part_of, part_named, part_number, family_of, least_of, most_of, offered, area_of, section_of, wrap_codes};
+ghost use Rattle.parts.specs.Parts.{part_of, part_named, part_number, family_of, least_of, most_of, offered, area_of, section_of, wrap_codes, limits_of};
 ghost use Rattle.parts.specs.Lengths.{wrap_length, group_length, share_of};
 
 use std::fmt;
 use units::Bytes;
+
+// The limits of a part: a memory has 2^n bytes, n from `least` to `most`; the bytes of the augmented area and of each of its
+// eight sections; and how many codes of configuration 3 name a group, the codes after them being reserved.
+#[derive(Clone, Copy)]
+pub struct Limits {
+    pub least: u8,
+    pub most: u8,
+    pub area: usize,
+    pub section: usize,
+    pub wrap_codes: u8,
+}
 
 // Part M, the serial MRAM. Its memories of 2^17, 2^19, 2^20 and 2^21 bytes are sold; the smaller ones are
 // the bench's. Its limits and fresh registers are constants of its type (D36).
@@ -17,15 +28,13 @@ pub struct PartM;
 impl PartM {
     pub const NUMBER: u8 = 1;
 
-    pub const LEAST: u8 = 10;
-
-    pub const MOST: u8 = 21;
-
-    pub const AREA: usize = 256;
-
-    pub const SECTION: usize = 32;
-
-    pub const WRAP_CODES: u8 = 5;
+    pub const LIMITS: Limits = Limits {
+        least: 10,
+        most: 21,
+        area: 256,
+        section: 32,
+        wrap_codes: 5,
+    };
 
     pub const FRESH_CR2: u8 = 0x08;
 
@@ -39,15 +48,13 @@ pub struct PartP;
 impl PartP {
     pub const NUMBER: u8 = 2;
 
-    pub const LEAST: u8 = 10;
-
-    pub const MOST: u8 = 21;
-
-    pub const AREA: usize = 0;
-
-    pub const SECTION: usize = 0;
-
-    pub const WRAP_CODES: u8 = 0;
+    pub const LIMITS: Limits = Limits {
+        least: 10,
+        most: 21,
+        area: 0,
+        section: 0,
+        wrap_codes: 0,
+    };
 
     pub const FRESH_MR0: u8 = 0x60;
 }
@@ -59,15 +66,13 @@ pub struct PartM32;
 impl PartM32 {
     pub const NUMBER: u8 = 3;
 
-    pub const LEAST: u8 = 10;
-
-    pub const MOST: u8 = 22;
-
-    pub const AREA: usize = 512;
-
-    pub const SECTION: usize = 64;
-
-    pub const WRAP_CODES: u8 = 7;
+    pub const LIMITS: Limits = Limits {
+        least: 10,
+        most: 22,
+        area: 512,
+        section: 64,
+        wrap_codes: 7,
+    };
 
     pub const FRESH_CR2: u8 = PartM::FRESH_CR2;
 
@@ -149,9 +154,19 @@ impl Part {
         ensures { result ≡ family_of self }
     {
         match self {
-            Part::M => Family::Mram,
+            Part::M | Part::M32 => Family::Mram,
             Part::P => Family::Psram,
-            Part::M32 => Family::Mram,
+        }
+    }
+
+    // The limits, which are a constant of the part's type.
+    fn limits(self) -> Limits
+        ensures { result ≡ limits_of self }
+    {
+        match self {
+            Part::M => PartM::LIMITS,
+            Part::P => PartP::LIMITS,
+            Part::M32 => PartM32::LIMITS,
         }
     }
 
@@ -159,56 +174,38 @@ impl Part {
     pub fn least(self) -> u8
         ensures { result ≡ least_of self }
     {
-        match self {
-            Part::M => PartM::LEAST,
-            Part::P => PartP::LEAST,
-            Part::M32 => PartM32::LEAST,
-        }
+        self.limits().least
     }
 
     pub fn most(self) -> u8
         ensures { result ≡ most_of self }
     {
-        match self {
-            Part::M => PartM::MOST,
-            Part::P => PartP::MOST,
-            Part::M32 => PartM32::MOST,
-        }
+        self.limits().most
     }
 
     // How many codes of configuration 3 name a group; the codes after them are reserved.
     pub fn wrap_codes(self) -> u8
         ensures { result ≡ wrap_codes self }
     {
-        match self {
-            Part::M => PartM::WRAP_CODES,
-            Part::P => PartP::WRAP_CODES,
-            Part::M32 => PartM32::WRAP_CODES,
-        }
+        self.limits().wrap_codes
     }
 
     // The bytes of the augmented area.
     pub fn area(self) -> Bytes
         ensures { result ≡ area_of self }
     {
-        match self {
-            Part::M => Bytes::stated(PartM::AREA),
-            Part::P => Bytes::stated(PartP::AREA),
-            Part::M32 => Bytes::stated(PartM32::AREA),
-        }
+        Bytes::stated(self.limits().area)
     }
 
     // The bytes of each of its eight sections.
     pub fn section(self) -> Bytes
         ensures { result ≡ section_of self }
     {
-        match self {
-            Part::M => Bytes::stated(PartM::SECTION),
-            Part::P => Bytes::stated(PartP::SECTION),
-            Part::M32 => Bytes::stated(PartM32::SECTION),
-        }
+        Bytes::stated(self.limits().section)
     }
 }
+
+// Lengths and shares are read from tables, as document 01 asks.
 
 // Bytes of an aligned group of the MRAM, by the code in configuration 3. The codes that a record cannot
 // have go on in the same way.
@@ -242,11 +239,9 @@ pub fn share(status: u8) -> usize
 }
 
 // Whether a part has memories of 2^n bytes.
+#[tactic(auto, unfolding(crate::specs::Parts::offered))]
 pub fn is_offered(part: Part, n: u8) -> bool
     ensures { result ≡ offered part n }
 {
-    if n < part.least() {
-        return false;
-    }
-    n <= part.most()
+    part.least() <= n && n <= part.most()
 }

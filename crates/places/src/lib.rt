@@ -51,14 +51,12 @@ pub fn allowed(s: Setting, a: Address, address: u32) -> bool
     requires { s.n ≤ 24 }
     ensures { result ≡ allowed_of s a address }
 {
-    let part = s.part;
     match a {
-        Address::Absent => true,
-        Address::InMemory => memory_allowed(part.family(), s.n, address),
-        Address::InArea => (address as usize) < part.area().in_bytes(),
-        Address::InMap => register_at(part, address).is_some(),
+        Address::Absent | Address::Ignored => true,
+        Address::InMemory => memory_allowed(s.part.family(), s.n, address),
+        Address::InArea => (address as usize) < s.part.area().in_bytes(),
+        Address::InMap => register_at(s.part, address).is_some(),
         Address::LowNibbleZero => address % 16 == 0,
-        Address::Ignored => true,
     }
 }
 
@@ -84,30 +82,31 @@ fn wrap_in_force(n: u8, cr3: u8) -> Bytes
 }
 
 // The group inside which memory reads come round.
+#[tactic(auto, unfolding(crate::specs::Places::read_span))]
 fn read_span(s: Setting) -> Bytes
     requires { s.n ≤ 24 }
     ensures { result ≡ read_span s }
 {
-    let part = s.part;
-    match part.family() {
+    match s.part.family() {
         Family::Mram => wrap_in_force(s.n, s.registers.cr3),
         Family::Psram => group_in_force(s.registers.mr0, s.toggle),
     }
 }
 
 // The group inside which memory writes come round.
+#[tactic(auto, unfolding(crate::specs::Places::write_span))]
 fn write_span(s: Setting) -> Bytes
     requires { s.n ≤ 24 }
     ensures { result ≡ write_span s }
 {
-    let part = s.part;
-    match part.family() {
+    match s.part.family() {
         Family::Mram => memory_size(s.n),
         Family::Psram => group_in_force(s.registers.mr0, s.toggle),
     }
 }
 
 // Where byte `i` of a burst lies, in a store of `size` bytes and groups of `span`.
+#[tactic(auto, unfolding(crate::specs::Places::place_in))]
 fn place_in(size: Bytes, span: Bytes, address: u32, i: Bytes) -> usize
     requires { Placeable size span i }
     ensures { result ≡ place_in size span address i }
@@ -166,31 +165,28 @@ fn shut_memory(n: u8, status: u8, place: usize) -> bool
 fn section_shut(protection: u8, section: usize) -> bool
     ensures { result ≡ section_shut protection section }
 {
-    if section < SECTIONS {
-        return (protection >> section) % 2 == 1;
-    }
-    false
+    section < SECTIONS && (protection >> section) % 2 == 1
 }
 
 // Whether the byte of memory at this place is protected.
+#[tactic(auto, unfolding(crate::specs::Protection::protected_of))]
 pub fn protected(s: Setting, place: usize) -> bool
     requires { s.n ≤ 24 }
     ensures { result ≡ protected_of s place }
 {
-    let part = s.part;
-    match part.family() {
+    match s.part.family() {
         Family::Mram => shut_memory(s.n, s.registers.status, place),
         Family::Psram => false,
     }
 }
 
 // Whether the byte of the area at this place is protected.
+#[tactic(auto, unfolding(crate::specs::Protection::area_protected_of))]
 pub fn area_protected(s: Setting, place: usize) -> bool
     ensures { result ≡ area_protected_of s place }
 {
-    let part = s.part;
-    match part.family() {
-        Family::Mram => section_shut(s.registers.protection, place / part.section().in_bytes()),
+    match s.part.family() {
+        Family::Mram => section_shut(s.registers.protection, place / s.part.section().in_bytes()),
         Family::Psram => false,
     }
 }

@@ -1,5 +1,8 @@
 // The plan in force: how many clocks each phase of a transaction has, and what its data is, once it is known
 // whether the command is answered at all.
+//
+// Setting, kind and address are parameters of their own here and not an `Aim`: half of the functions have no address, callers hold
+// the setting apart from the `Progress` with kind and address, and the definitions, which theorems speak of, take them apart.
 #![tactic(auto)]
 
 ghost use Rattle.std.specs.Prelude.{◌≡◌, ◌≤◌};
@@ -18,37 +21,19 @@ const ADDRESS: usize = 3;
 fn is_waking(k: Kind) -> bool
     ensures { result ≡ wakes k }
 {
-    match k {
-        Kind::Unknown => false,
-        Kind::Plain(c) => match c {
-            Control::NoOperation => false,
-            Control::WriteEnable => false,
-            Control::WriteDisable => false,
-            Control::ToOne => false,
-            Control::ToTwo => false,
-            Control::ToFour => false,
-            Control::Sleep => false,
-            Control::Wake => true,
-            Control::ResetEnable => false,
-            Control::Reset => false,
-            Control::Toggle => false,
-        },
-        Kind::Read(_) => false,
-        Kind::Write(_) => false,
-    }
+    matches!(k, Kind::Plain(Control::Wake))
 }
 
 // Whether the chip sleeps through the command.
+#[tactic(auto, unfolding(paper::specs::InForce::asleep_for))]
 pub fn asleep_for(s: Setting, k: Kind) -> bool
     ensures { result ≡ asleep_for s k }
 {
-    if s.asleep {
-        return !is_waking(k);
-    }
-    false
+    s.asleep && !is_waking(k)
 }
 
 // Whether the command must not have this address.
+#[tactic(auto, unfolding(paper::specs::InForce::refused_at))]
 pub fn refused_at(s: Setting, k: Kind, address: u32) -> bool
     requires { s.n ≤ 24 }
     ensures { result ≡ refused_at s k address }
@@ -57,56 +42,48 @@ pub fn refused_at(s: Setting, k: Kind, address: u32) -> bool
 }
 
 // Whether the transaction is decided with its command.
+#[tactic(auto, unfolding(paper::specs::InForce::stopped))]
 fn is_stopped(s: Setting, k: Kind) -> bool
     ensures { result ≡ stopped s k }
 {
-    if asleep_for(s, k) {
-        return true;
-    }
-    is_unknown(k)
+    asleep_for(s, k) || is_unknown(k)
 }
 
 // Whether it is decided with its address.
+#[tactic(auto, unfolding(paper::specs::InForce::decided))]
 fn is_decided(s: Setting, k: Kind, address: u32) -> bool
     requires { s.n ≤ 24 }
     ensures { result ≡ decided s k address }
 {
-    if is_stopped(s, k) {
-        return true;
-    }
-    refused_at(s, k, address)
+    is_stopped(s, k) || refused_at(s, k, address)
 }
 
+#[tactic(auto, unfolding(paper::specs::InForce::command_clocks))]
 pub fn command_clocks(s: Setting) -> Clocks
     ensures { result ≡ command_clocks s }
 {
-    let w = s.wires;
-    units::byte_clocks(w)
+    units::byte_clocks(s.wires)
 }
 
 // The wires of address, wait and data.
+#[tactic(auto, unfolding(paper::specs::InForce::wires_for))]
 pub fn wires_for(s: Setting, k: Kind) -> Wires
     ensures { result ≡ wires_for s k }
 {
-    let w = s.wires;
-    later_wires(k, w)
+    later_wires(k, s.wires)
 }
 
 // The clocks of an address, where there is one.
 pub fn address_length(a: Address, w: Wires) -> Clocks
     ensures { result ≡ address_length a w }
 {
-    let whole = units::bytes_to_clocks(Bytes::stated(ADDRESS), w);
     match a {
         Address::Absent => Clocks::none(),
-        Address::InMemory => whole,
-        Address::InArea => whole,
-        Address::InMap => whole,
-        Address::LowNibbleZero => whole,
-        Address::Ignored => whole,
+        _ => units::bytes_to_clocks(Bytes::stated(ADDRESS), w),
     }
 }
 
+#[tactic(auto, unfolding(paper::specs::InForce::address_clocks))]
 pub fn address_clocks(s: Setting, k: Kind) -> Clocks
     ensures { result ≡ address_clocks s k }
 {
@@ -116,6 +93,7 @@ pub fn address_clocks(s: Setting, k: Kind) -> Clocks
     address_length(address_of(k), wires_for(s, k))
 }
 
+#[tactic(auto, unfolding(paper::specs::InForce::wait_clocks))]
 pub fn wait_clocks(s: Setting, k: Kind, address: u32) -> Clocks
     requires { s.n ≤ 24 }
     ensures { result ≡ wait_clocks s k address }
@@ -123,10 +101,10 @@ pub fn wait_clocks(s: Setting, k: Kind, address: u32) -> Clocks
     if is_decided(s, k, address) {
         return Clocks::none();
     }
-    let w = s.wires;
-    wait_of(k, w, s.registers.cr2)
+    wait_of(k, s.wires, s.registers.cr2)
 }
 
+#[tactic(auto, unfolding(paper::specs::InForce::body_for))]
 pub fn body_for(s: Setting, k: Kind, address: u32) -> Body
     requires { s.n ≤ 24 }
     ensures { result ≡ body_for s k address }
@@ -134,8 +112,7 @@ pub fn body_for(s: Setting, k: Kind, address: u32) -> Body
     if is_decided(s, k, address) {
         return Body::Nothing;
     }
-    let part = s.part;
-    body_of(part, k, address)
+    body_of(s.part, k, address)
 }
 
 // The data clocks among all that there are.
@@ -144,9 +121,7 @@ pub fn data_clocks(b: Body, w: Wires, all: Clocks) -> Clocks
 {
     match b {
         Body::Nothing => Clocks::none(),
-        Body::FixedRead(size) => clocks_within(size, w, all),
-        Body::AnyRead => all,
-        Body::FixedWrite(size) => clocks_within(size, w, all),
-        Body::AnyWrite => all,
+        Body::FixedRead(size) | Body::FixedWrite(size) => clocks_within(size, w, all),
+        Body::AnyRead | Body::AnyWrite => all,
     }
 }

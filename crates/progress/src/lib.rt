@@ -5,9 +5,8 @@ ghost use Rattle.std.specs.Prelude.{◌≡◌};
 ghost use Rattle.progress.specs.Progress.{nothing_yet, counting, entered, onward, begin_of};
 
 use counts::Counts;
-use kinds::Kind;
-
 pub use counts::Phase;
+use kinds::Kind;
 
 // What the clocks so far come to: their counts, and the eight places of a register write (D59).
 #[derive(Clone, Copy)]

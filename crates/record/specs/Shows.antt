@@ -15,7 +15,7 @@ abbrev pub status_shown : ℕ → Bool → ℕ
 status_shown v latch = without_latch v + cond latch 2 0
 
 -- a register of one byte, in the eight places that the longest register has; past a register's size there is nothing to read
-abbrev one : ℕ → List ℕ
+abbrev pub one : ℕ → List ℕ
 one v = v ∷ replicate 7 0
 
 abbrev pub shown : Device → Register → List ℕ

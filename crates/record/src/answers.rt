@@ -4,23 +4,23 @@ ghost use Rattle.record.specs.Answers.{answer_number, class_of, is_done, refuses
 
 use std::fmt;
 
-// What a call is answered. `answer_number` has the papers' numbers.
+// What a call is answered, with the papers' number for it.
 #[derive(Clone, Copy, PartialEq, Eq)]
 pub enum Answer {
-    Done,
-    Size,
-    Sample,
-    State,
-    Short,
-    Unknown,
-    Asleep,
-    Address,
-    Latch,
-    Protected,
-    Reserved,
-    Long,
-    Unarmed,
-    Turn,
+    Done = 0,
+    Size = 1,
+    Sample = 2,
+    State = 3,
+    Short = 4,
+    Unknown = 5,
+    Asleep = 6,
+    Address = 7,
+    Latch = 8,
+    Protected = 9,
+    Reserved = 10,
+    Long = 11,
+    Unarmed = 12,
+    Turn = 13,
 }
 
 // Its name.
@@ -49,22 +49,7 @@ impl From<Answer> for u8 {
     ghost from_gives = { λ a number. number ≡ answer_number a };
 
     fn from(a: Answer) -> u8 {
-        match a {
-            Answer::Done => 0,
-            Answer::Size => 1,
-            Answer::Sample => 2,
-            Answer::State => 3,
-            Answer::Short => 4,
-            Answer::Unknown => 5,
-            Answer::Asleep => 6,
-            Answer::Address => 7,
-            Answer::Latch => 8,
-            Answer::Protected => 9,
-            Answer::Reserved => 10,
-            Answer::Long => 11,
-            Answer::Unarmed => 12,
-            Answer::Turn => 13,
-        }
+        a as u8
     }
 }
 
@@ -99,7 +84,7 @@ pub fn class_of(a: Answer) -> Class
 pub fn is_done(a: Answer) -> bool
     ensures { result ≡ is_done a }
 {
-    class_of(a) == Class::Done
+    a == Answer::Done
 }
 
 // The call was refused.

@@ -26,11 +26,7 @@ impl Underway {
     {
         Underway {
             selected: true,
-            clocks: Clocks::none(),
-            opcode: 0,
-            address: 0,
-            number: 0,
-            value: [0u8; 8],
+            ..Underway::none()
         }
     }
 }

@@ -5,6 +5,17 @@ ghost use Rattle.record.specs.Fresh.{fresh_registers, fresh_volatile, fresh_iden
 use crate::devices::{Device, Identities, Make, Registers, Underway, Volatile};
 use parts::{Family, Part, PartM, PartM32, PartP};
 
+// Registers that are all 0, from which a fresh part's differ in few.
+const CLEAR: Registers = Registers {
+    status: 0,
+    protection: 0,
+    cr1: 0,
+    cr2: 0,
+    cr3: 0,
+    cr4: 0,
+    mr0: 0,
+};
+
 impl Registers {
     // What a part's registers are when it is new.
     pub fn fresh(part: Part) -> Self
@@ -12,31 +23,18 @@ impl Registers {
     {
         match part {
             Part::M => Registers {
-                status: 0,
-                protection: 0,
-                cr1: 0,
                 cr2: PartM::FRESH_CR2,
-                cr3: 0,
                 cr4: PartM::FRESH_CR4,
-                mr0: 0,
+                ..CLEAR
             },
             Part::P => Registers {
-                status: 0,
-                protection: 0,
-                cr1: 0,
-                cr2: 0,
-                cr3: 0,
-                cr4: 0,
                 mr0: PartP::FRESH_MR0,
+                ..CLEAR
             },
             Part::M32 => Registers {
-                status: 0,
-                protection: 0,
-                cr1: 0,
                 cr2: PartM32::FRESH_CR2,
-                cr3: 0,
                 cr4: PartM32::FRESH_CR4,
-                mr0: 0,
+                ..CLEAR
             },
         }
     }

@@ -13,16 +13,13 @@ impl Device {
         let family = Part::of(self.make.part).family();
         self.volatile.mode = 1;
         match family {
-            Family::Mram => {
-                self.volatile.latch = false;
-                self
-            }
+            Family::Mram => self.volatile.latch = false,
             Family::Psram => {
                 self.registers.mr0 = PartP::FRESH_MR0;
                 self.volatile.toggle = false;
-                self
             }
         }
+        self
     }
 
     // What a power cycle does to the record.

@@ -1,6 +1,6 @@
 // What a read of a register shows.
-ghost use Rattle.std.specs.Prelude.{◌≡◌, get_or};
-ghost use Rattle.record.specs.Shows.{without_latch, status_shown, shown, shown_byte};
+ghost use Rattle.std.specs.Prelude.{◌≡◌};
+ghost use Rattle.record.specs.Shows.{without_latch, status_shown, one, shown, shown_byte};
 
 use crate::devices::Device;
 use kinds::Register;
@@ -12,24 +12,20 @@ impl Device {
         ensures { result ≡ shown self r }
     {
         match r {
-            Register::Status => {
-                let v = status_shown(self.registers.status, self.volatile.latch);
-                [v, 0, 0, 0, 0, 0, 0, 0]
-            }
-            Register::AreaProtection => [self.registers.protection, 0, 0, 0, 0, 0, 0, 0],
-            Register::Configuration1 => [self.registers.cr1, 0, 0, 0, 0, 0, 0, 0],
-            Register::Configuration2 => [self.registers.cr2, 0, 0, 0, 0, 0, 0, 0],
-            Register::Configuration3 => [self.registers.cr3, 0, 0, 0, 0, 0, 0, 0],
-            Register::Configuration4 => [self.registers.cr4, 0, 0, 0, 0, 0, 0, 0],
+            Register::Status => one(status_shown(self.registers.status, self.volatile.latch)),
+            Register::AreaProtection => one(self.registers.protection),
+            Register::Configuration1 => one(self.registers.cr1),
+            Register::Configuration2 => one(self.registers.cr2),
+            Register::Configuration3 => one(self.registers.cr3),
+            Register::Configuration4 => one(self.registers.cr4),
             Register::Configurations => {
                 let s = self.registers;
                 [s.cr1, s.cr2, s.cr3, s.cr4, 0, 0, 0, 0]
             }
-            Register::Identity => self.identity.device,
+            Register::Identity | Register::LongIdentity => self.identity.device,
             Register::Unique => self.identity.unique,
             Register::Serial => self.identity.serial,
-            Register::ModeRegister => [self.registers.mr0, 0, 0, 0, 0, 0, 0, 0],
-            Register::LongIdentity => self.identity.device,
+            Register::ModeRegister => one(self.registers.mr0),
         }
     }
 
@@ -37,19 +33,15 @@ impl Device {
     pub fn shown_byte(self, r: Register, i: Bytes) -> u8
         ensures { result ≡ shown_byte self r i }
     {
-        byte_at(self.shown(r), i)
+        self.shown(r).get(i.in_bytes()).copied().unwrap_or(0)
     }
 }
 
-// Byte `i` of eight, and 0 past them.
-fn byte_at(a: [u8; 8], i: Bytes) -> u8
-    ensures { result ≡ get_or a i.0 0 }
+// A register of one byte, in the eight places that the longest register has.
+fn one(v: u8) -> [u8; 8]
+    ensures { result ≡ one v }
 {
-    let at = i.in_bytes();
-    if at < 8 {
-        return a[at];
-    }
-    0
+    [v, 0, 0, 0, 0, 0, 0, 0]
 }
 
 // A status byte without its bit 1.

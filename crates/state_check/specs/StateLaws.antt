@@ -1,6 +1,7 @@
 -- Laws of the state check.
 -- Assumes nothing.
 use Rattle.std.specs.Prelude.{◌≡◌, refl, ℕ, zero, suc, ◌+◌, ◌<◌, ◌≤◌, List, [], ◌∷◌, eqb, length, get_or, drop, replicate}
+use Rattle.std.specs.List.{list_all}
 use Rattle.std.proofs.Common.{add-one, arith, drop_of_length-le}
 use Rattle.std.proofs.Math.Bool.{true, false}
 use Rattle.std.proofs.Math.Seq.{drop-cons}
@@ -57,3 +58,9 @@ zeros_all [] zero h e = refl
 zeros_all [] (suc n) h e = absurd (omega arith)
 zeros_all (x ∷ v) zero h e = absurd (omega arith)
 zeros_all (x ∷ v) (suc n) h e = let b = both_true (eqb x 0) (zeros v) e in rw (eqb-true x 0 b.0, zeros_all v n (omega arith) b.1)
+
+-- no byte is another than 0, in the words of a walk over them
+pub zeros_is : (xs : List ℕ) → list_all (λ x. eqb x 0) xs ≡ zeros xs
+unfolding zeros
+zeros_is [] = refl
+zeros_is (x ∷ xs) = rw (zeros_is xs) refl

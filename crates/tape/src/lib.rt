@@ -5,8 +5,8 @@
 
 ghost use Rattle.std.specs.Prelude.{◌≡◌, ◌+◌, ◌<◌, length};
 ghost use Rattle.contract_words.specs.Words.{lends, world_of};
-ghost use Rattle.tape.specs.Tape.{word_at, fresh_entry, entry_for, nothing_but, found_of};
-ghost use Rattle.tape.specs.Play.{is_good, memory_of, socket_of, play_of, played_at};
+ghost use Rattle.tape.specs.Tape.{word_at, kind_named, fresh_entry, entry_for, found_of};
+ghost use Rattle.tape.specs.Play.{memory_of, socket_of, chip_of, chip_for, play_of, played_at};
 
 use parts::Part;
 use record::{Answer, Device, Make, Outcome, unclocked};
@@ -26,18 +26,12 @@ const ADDRESS_BITS: u8 = 24;
 // The samples that a transaction on a tape has at most.
 pub const MOST_SAMPLES: usize = 4096;
 
-// The bytes of a record before its payload, and the numbers of its kinds.
+// The bytes of a record before its payload.
 const HEAD: usize = 4;
-
-const TRANSACTION: usize = 1;
-
-const POWER_CYCLE: usize = 2;
-
-const FRESH: usize = 3;
 
 // What is wrong with a bad record: it is cut short, it is of a kind that there is not, or its payload is not one of its
 // kind, which is a transaction's, a power cycle's or a fresh chip's (D51).
-#[derive(Clone, Copy)]
+#[derive(Clone, Copy, PartialEq, Eq)]
 pub enum Fault {
     Cut,
     Strange,
@@ -46,107 +40,103 @@ pub enum Fault {
     Chip,
 }
 
+// The kinds of records.
+#[derive(Clone, Copy, PartialEq, Eq)]
+pub enum Kind {
+    Transaction,
+    PowerCycle,
+    Fresh,
+}
+
+// The kind of the number that stands in a record's head.
+impl TryFrom<u16> for Kind {
+    type Error = Fault;
+
+    ghost try_from_gives = { λ number r. r ≡ kind_named number };
+
+    fn try_from(number: u16) -> Result<Self, Fault> {
+        match number {
+            1 => Ok(Kind::Transaction),
+            2 => Ok(Kind::PowerCycle),
+            3 => Ok(Kind::Fresh),
+            _ => Err(Fault::Strange),
+        }
+    }
+}
+
 // What a record asks for.
-#[derive(Clone, Copy)]
+#[derive(Clone, Copy, PartialEq, Eq)]
 pub enum Entry {
-    End,
-    Bad(Fault),
     Transaction,
     PowerCycle,
     Fresh(Make),
 }
 
-// What stands at a place: the record, where its payload begins, and where the next record does. Both are 0
-// where there is no whole record.
+// A record that stands whole on the tape: what it asks for or what is wrong with it, where its payload begins, and where the next record
+// does.
 #[derive(Clone, Copy)]
 pub struct Found {
-    pub entry: Entry,
+    pub entry: Result<Entry, Fault>,
     pub from: usize,
     pub next: usize,
 }
 
-fn nothing(entry: Entry) -> Found
-    ensures { result ≡ nothing_but entry }
-{
-    Found {
-        entry,
-        from: 0,
-        next: 0,
-    }
-}
-
 // Two bytes, the low one first.
-fn word_at(tape: &[u8], at: usize) -> usize
+#[tactic(auto, unfolding(crate::specs::Tape::word_at))]
+fn word_at(tape: &[u8], at: usize) -> u16
     requires { at + 1 < length tape.now }
     ensures { result ≡ word_at tape.now at }
 {
-    tape[at] as usize + 256 * (tape[at + 1] as usize)
+    u16::from_le_bytes([tape[at], tape[at + 1]])
 }
 
 // A fresh chip of a make that the tape has.
-fn fresh_entry(make: Make) -> Entry
+#[tactic(auto, unfolding(crate::specs::Tape::fresh_entry))]
+fn fresh_entry(make: Make) -> Result<Entry, Fault>
     ensures { result ≡ fresh_entry make }
 {
-    if !Part::is_known(make.part) {
-        return Entry::Bad(Fault::Chip);
+    if Part::try_from(make.part).is_ok() && LEAST <= make.n && make.n <= MOST {
+        Ok(Entry::Fresh(make))
+    } else {
+        Err(Fault::Chip)
     }
-    if make.n < LEAST {
-        return Entry::Bad(Fault::Chip);
-    }
-    if MOST < make.n {
-        return Entry::Bad(Fault::Chip);
-    }
-    Entry::Fresh(make)
 }
 
 // What a kind and a payload ask for.
-fn entry_for(kind: usize, payload: &[u8]) -> Entry
-    ensures { result ≡ entry_for kind payload.now }
+#[tactic(auto, unfolding(crate::specs::Tape::entry_for))]
+fn entry_for(number: u16, payload: &[u8]) -> Result<Entry, Fault>
+    ensures { result ≡ entry_for number payload.now }
 {
-    if kind == TRANSACTION {
-        if MOST_SAMPLES < payload.len() {
-            return Entry::Bad(Fault::Samples);
-        }
-        return Entry::Transaction;
+    match (Kind::try_from(number)?, payload) {
+        (Kind::Transaction, samples) if samples.len() <= MOST_SAMPLES => Ok(Entry::Transaction),
+        (Kind::Transaction, _) => Err(Fault::Samples),
+        (Kind::PowerCycle, []) => Ok(Entry::PowerCycle),
+        (Kind::PowerCycle, _) => Err(Fault::Power),
+        (Kind::Fresh, [part, n]) => fresh_entry(Make { part: *part, n: *n }),
+        (Kind::Fresh, _) => Err(Fault::Chip),
     }
-    if kind == POWER_CYCLE {
-        if payload.len() != 0 {
-            return Entry::Bad(Fault::Power);
-        }
-        return Entry::PowerCycle;
-    }
-    if kind != FRESH {
-        return Entry::Bad(Fault::Strange);
-    }
-    if payload.len() != 2 {
-        return Entry::Bad(Fault::Chip);
-    }
-    fresh_entry(Make {
-        part: payload[0],
-        n: payload[1],
-    })
 }
 
-// THE CURSOR: what stands at a place of the tape.
-pub fn entry_at(tape: &[u8], at: usize) -> Found
+// THE CURSOR: what stands at a place of the tape, which is nothing at its end.
+#[tactic(auto, unfolding(crate::specs::Tape::found_of))]
+pub fn entry_at(tape: &[u8], at: usize) -> Result<Option<Found>, Fault>
     ensures { result ≡ found_of tape.now at }
 {
-    let n = tape.len();
-    if n <= at {
-        return nothing(Entry::End);
+    if tape.len() <= at {
+        return Ok(None);
     }
-    if n - at < HEAD {
-        return nothing(Entry::Bad(Fault::Cut));
+    let left = tape.len() - at;
+    if left < HEAD {
+        return Err(Fault::Cut);
     }
-    let long = word_at(tape, at);
-    let kind = word_at(tape, at + 2);
-    if n - at - HEAD < long {
-        return nothing(Entry::Bad(Fault::Cut));
+    let long = word_at(tape, at) as usize;
+    if left - HEAD < long {
+        return Err(Fault::Cut);
     }
     let from = at + HEAD;
     let next = from + long;
-    let entry = entry_for(kind, &tape[from..next]);
-    Found { entry, from, next }
+    let entry = entry_for(word_at(tape, at + 2), &tape[from..next]);
+    Ok(Some(Found { entry, from, next }))
 }
 
 // The bytes that a chip has.
@@ -156,42 +146,60 @@ pub struct Socket {
     pub area: Bytes,
 }
 
-// Whether a record can be played: transactions and power cycles want a chip in the socket.
-pub fn is_good(chip: bool, e: Entry) -> bool
-    ensures { result ≡ is_good chip e }
-{
-    match e {
-        Entry::End => false,
-        Entry::Bad(_) => false,
-        Entry::Transaction => chip,
-        Entry::PowerCycle => chip,
-        Entry::Fresh(_) => true,
-    }
-}
-
 // The bytes of memory, none where no chip is so large, and of area.
+#[tactic(auto, unfolding(crate::specs::Play::memory_of))]
 fn memory_of(n: u8) -> Bytes
     ensures { result ≡ memory_of n }
 {
     if ADDRESS_BITS < n {
-        return Bytes::none();
+        Bytes::none()
+    } else {
+        places::memory_size(n)
     }
-    places::memory_size(n)
 }
 
 pub fn socket_of(make: Make) -> Socket
     ensures { result ≡ socket_of make }
 {
-    let p = Part::of(make.part);
     Socket {
         memory: memory_of(make.n),
-        area: p.area(),
+        area: Part::of(make.part).area(),
     }
 }
 
-// What a record does to the chip. The identity and the numbers of a fresh one are 0.
+// A chip in the socket: the bytes that it has, and its record.
+#[derive(Clone, Copy)]
+pub struct Chip {
+    pub socket: Socket,
+    pub device: Device,
+}
+
+impl Chip {
+    // A fresh one, whose identity and numbers are 0.
+    pub fn fresh(make: Make) -> Chip
+        ensures { result ≡ chip_of make }
+    {
+        Chip {
+            socket: socket_of(make),
+            device: Device::fresh(make, [0; 8], [0; 8]),
+        }
+    }
+}
+
+// The chip that a record is played on, where it can be played: a fresh one, or the one in the socket, which transactions and power
+// cycles want.
+pub fn chip_for(e: Entry, now: Option<Chip>) -> Option<Chip>
+    ensures { result ≡ chip_for e now }
+{
+    match e {
+        Entry::Transaction | Entry::PowerCycle => now,
+        Entry::Fresh(make) => Some(Chip::fresh(make)),
+    }
+}
+
+// What a record does to the chip.
 fn play(
-    e: Entry,
+    e: Result<Entry, Fault>,
     d: Device,
     memory: &mut [u8],
     area: &mut [u8],
@@ -201,19 +209,19 @@ fn play(
     ensures { world_of result memory.new area.new output.new ≡ play_of e d (lends memory.old area.old) samples.now output.old }
 {
     match e {
-        Entry::End => unclocked(Answer::Size, d),
-        Entry::Bad(_) => unclocked(Answer::Size, d),
-        Entry::Transaction => device::transact(d, memory, area, samples, output),
-        Entry::PowerCycle => device::power_cycle(d, memory, area),
-        Entry::Fresh(make) => {
-            device::wipe(memory);
-            device::wipe(area);
-            unclocked(Answer::Done, Device::fresh(make, [0; 8], [0; 8]))
+        Err(_) => unclocked(Answer::Size, d),
+        Ok(Entry::Transaction) => device::transact(d, memory, area, samples, output),
+        Ok(Entry::PowerCycle) => device::power_cycle(d, memory, area),
+        Ok(Entry::Fresh(make)) => {
+            memory.fill(0);
+            area.fill(0);
+            unclocked(Answer::Done, Chip::fresh(make).device)
         }
     }
 }
 
 // The record at a place of the tape, played.
+#[tactic(auto, using(crate::specs::Laws::found_first, crate::specs::Laws::found_last), unfolding(crate::specs::Play::played_at))]
 pub fn play_at(
     tape: &[u8],
     at: usize,
@@ -224,9 +232,8 @@ pub fn play_at(
 ) -> Outcome
     ensures { world_of result memory.new area.new output.new ≡ played_at tape.now at d (lends memory.old area.old) output.old }
 {
-    let f = entry_at(tape, at);
-    let entry = f.entry;
-    let from = f.from;
-    let next = f.next;
-    play(entry, d, memory, area, &tape[from..next], output)
+    match entry_at(tape, at) {
+        Ok(Some(f)) => play(f.entry, d, memory, area, &tape[f.from..f.next], output),
+        _ => unclocked(Answer::Size, d),
+    }
 }

@@ -1,11 +1,11 @@
-// A place on a tape that is lent, tape and all, and what is found there. The work is `tape::entry_at`'s, which takes a plain slice
+// A place on a tape that is lent, tape and all, and what stands there. The work is `tape::entry_at`'s, which takes a plain slice
 // and a number (D37).
 #![tactic(auto)]
 
 ghost use Rattle.std.specs.Prelude.{◌≡◌};
-ghost use Rattle.tape.specs.Tape.{found_of};
+ghost use Rattle.tape.specs.Tape.{found_of, payload_of};
 
-use tape::Found;
+use tape::{Fault, Found};
 
 #[derive(Clone, Copy)]
 pub struct Reader<'a> {
@@ -13,23 +13,29 @@ pub struct Reader<'a> {
     pub at: usize,
 }
 
-// A reader at a place of a tape.
-pub fn opened<'a>(tape: &'a [u8], at: usize) -> Reader<'a>
-    ensures { (result.tape ≡ tape.entry) × (result.at ≡ at) }
-{
-    Reader { tape, at }
-}
+impl<'a> Reader<'a> {
+    // A reader at a place of a tape.
+    pub fn opened(tape: &'a [u8], at: usize) -> Reader<'a>
+        ensures { (result.tape ≡ tape.entry) × (result.at ≡ at) }
+    {
+        Reader { tape, at }
+    }
 
-// What stands at its place.
-pub fn found<'a>(r: Reader<'a>) -> Found
-    ensures { result ≡ found_of r.entry.tape.now r.entry.at }
-{
-    tape::entry_at(r.tape, r.at)
-}
+    // What stands at its place.
+    pub fn found(self) -> Result<Option<Found>, Fault>
+        ensures { result ≡ found_of self.entry.tape.now self.entry.at }
+    {
+        tape::entry_at(self.tape, self.at)
+    }
 
-// What a reader finds at a place of a plain tape. Its callers need know nothing of readers.
-pub fn found_at(tape: &[u8], at: usize) -> Found
-    ensures { result ≡ found_of tape.now at }
-{
-    found(opened(tape, at))
+    // The payload of the record at its place, and nothing where there is no whole record.
+    #[tactic(auto, using(tape::specs::Laws::found_first, tape::specs::Laws::found_last))]
+    pub fn payload(self) -> &'a [u8]
+        ensures { result.now ≡ payload_of self.entry.tape.now (found_of self.entry.tape.now self.entry.at) }
+    {
+        match self.found() {
+            Ok(Some(f)) => &self.tape[f.from..f.next],
+            _ => &[],
+        }
+    }
 }

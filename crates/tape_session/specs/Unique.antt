@@ -1,15 +1,16 @@
 -- UNIQUE for a turn of a session.
 -- Assumes nothing.
-use Rattle.std.specs.Prelude.{◌≡◌, refl, ℕ, List}
+use Rattle.std.specs.Prelude.{◌≡◌, refl, ℕ, List, Result}
 use Rattle.basis.specs.Unique.{unique}
 use Rattle.paper.specs.Storing.{Lent}
 use Rattle.tape_session.specs.declared.Session.{Session}
+use Rattle.tape_session.specs.declared.Stop.{Stop}
 use Rattle.tape_session.specs.declared.Turn.{Turn}
 use Rattle.tape_session.specs.Session.{Turned, turned_of, turn_of}
 
--- a turn, and what is lent as it leaves it
+-- a turn or why there is none, and what is lent as it leaves it
 pub record Ended : Type 0 where
-  pub turn : Turn
+  pub turn : Result Turn Stop
   pub memory : List ℕ
   pub area : List ℕ
   pub output : List ℕ

@@ -15,7 +15,8 @@ ghost use Rattle.units.specs.Units.{clocks, bytes, next, next_byte, plus, less, 
 use std::fmt;
 use std::ops::{Add, Sub};
 
-// A number of clocks (D18).
+// A number of clocks (D18). Clocks and bytes are two tuple structs, as document 01 asks, so that one never stands where the other
+// is due; what both have is written for each.
 #[derive(Clone, Copy, PartialEq, Eq, PartialOrd, Ord)]
 pub struct Clocks(usize);
 
@@ -199,6 +200,7 @@ pub fn bytes_to_clocks(b: Bytes, w: Wires) -> Clocks
 }
 
 // The same for any number of bytes, but no more clocks than there are.
+#[tactic(auto, unfolding(crate::specs::Units::clocks_within))]
 pub fn clocks_within(b: Bytes, w: Wires, all: Clocks) -> Clocks
     ensures { result ≡ clocks_within w b all }
 {

@@ -40,6 +40,7 @@ fn with_bits(number: u32, x: u8, w: Wires) -> u64
 }
 
 // The number gathered so far, with the bits of one more sample below it.
+#[tactic(auto, unfolding(crate::specs::Bits::shift_of))]
 pub fn shift_in(number: u32, x: u8, w: Wires) -> u32
     ensures { result ≡ shift_of w number x }
 {
@@ -54,13 +55,11 @@ pub fn fits(v: u32, c: Clocks, w: Wires) -> bool
         return true;
     }
     let bits = units::bits_in(c, w);
-    if NUMBER <= bits {
-        return true;
-    }
-    v >> bits == 0
+    NUMBER <= bits || v >> bits == 0
 }
 
 // The bits of the byte `b` that travel in clock `k` of it, counted from 0.
+#[tactic(auto, unfolding(crate::specs::Bits::group_of))]
 pub fn group(b: u8, k: Clocks, w: Wires) -> u8
     ensures { result ≡ group_of w k b }
 {

@@ -3,5 +3,5 @@
 use Rattle.bench_columns.specs.Laws.{put_then}
 use Rattle.bench_columns.proofs.column.Goals as goal
 
-pub returns : goal.returns
-returns c = put_then _ _ _ c.put-a.ensures c.put_decimal.ensures
+pub returns-clause-put : goal.returns-clause-put
+returns-clause-put c = put_then _ _ _ c.put.ensures.put c.put_decimal.ensures.put

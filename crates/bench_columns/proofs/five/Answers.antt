@@ -4,9 +4,9 @@ use Rattle.bench_columns.specs.Columns.{five_of}
 use Rattle.bench_columns.specs.Laws.{puts_then}
 use Rattle.bench_columns.proofs.five.Goals as goal
 
-pub returns : goal.returns
+pub returns-clause-put : goal.returns-clause-put
 unfolding five_of
-returns c = puts_then _ _ _ c.clocks_column-a.ensures
-    (puts_then _ _ _ c.clocks_column-b.ensures
-    (puts_then _ _ _ c.clocks_column-d.ensures
-    (puts_then _ _ _ c.clocks_column-e.ensures c.clocks_column.ensures)))
+returns-clause-put c = puts_then _ _ _ c.clocks_column.ensures.put
+    (puts_then _ _ _ c.clocks_column-2.ensures.put
+    (puts_then _ _ _ c.clocks_column-3.ensures.put
+    (puts_then _ _ _ c.clocks_column-4.ensures.put c.clocks_column-5.ensures.put)))

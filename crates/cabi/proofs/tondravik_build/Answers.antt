@@ -7,8 +7,10 @@ use Rattle.cabi.proofs.tondravik_build.Goals as goal
 
 pub returns-then-clocks-ne-NUMBER : goal.returns-then-clocks-ne-NUMBER
 unfolding build_in
-returns-then-clocks-ne-NUMBER c = rw (ne_eqb _ _ c.if-clocks-ne-NUMBER.true)
+returns-then-clocks-ne-NUMBER c = rw (ne_eqb _ _ c.if-clocks-ne-NUMBER.true, c.from.ensures)
 
-pub returns : goal.returns
-unfolding build_in
-returns c = rw (c.answer_number.ensures, c.put_number.ensures, c.in_clocks.ensures) (build_told _ _ c.if-clocks-ne-NUMBER.false _ _ (rw c.stated.ensures at c.build-b.ensures))
+pub returns-in-Ok : goal.returns-in-Ok
+returns-in-Ok c = rw (c.fill.ensures.answer, c.fill.ensures.number, c.in_clocks.ensures) (build_told _ _ c.if-clocks-ne-NUMBER.false _ _ (rw c.stated.ensures at c.in-Ok.ensures.told))
+
+pub returns-in-Err : goal.returns-in-Err
+returns-in-Err c = rw (c.fill-in-Err.ensures.answer, c.fill-in-Err.ensures.number) (build_told _ _ c.if-clocks-ne-NUMBER.false _ _ (rw c.stated.ensures at c.in-Err.ensures.told))

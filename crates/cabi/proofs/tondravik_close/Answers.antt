@@ -14,4 +14,4 @@ returns-then-counts-ne-COUNTS c = unroomed_told c.args.image.now _ [] c.args.cou
 
 pub returns : goal.returns
 unfolding close_from
-returns c = counted_told c.args.image.now _ [] c.args.counts.now _ _ _ _ _ _ c.if-counts-ne-COUNTS.false c.close-r.ensures c.tell.ensures
+returns c = counted_told c.args.image.now _ [] c.args.counts.now _ _ _ _ _ _ c.if-counts-ne-COUNTS.false c.close.ensures c.tell.ensures

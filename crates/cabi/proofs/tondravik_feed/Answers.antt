@@ -6,4 +6,4 @@ use Rattle.cabi.proofs.tondravik_feed.Goals as goal
 
 pub returns : goal.returns
 unfolding feed_from
-returns c = plain _ _ _ _ _ c.answer_number.ensures c.feed-r.ensures
+returns c = plain _ _ _ _ _ c.from.ensures c.feed.ensures

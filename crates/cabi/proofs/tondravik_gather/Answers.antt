@@ -7,8 +7,10 @@ use Rattle.cabi.proofs.tondravik_gather.Goals as goal
 
 pub returns-then-number-ne-NUMBER : goal.returns-then-number-ne-NUMBER
 unfolding gather_in
-returns-then-number-ne-NUMBER c = rw (ne_eqb _ _ c.if-number-ne-NUMBER.true)
+returns-then-number-ne-NUMBER c = rw (ne_eqb _ _ c.if-number-ne-NUMBER.true, c.from.ensures)
 
-pub returns : goal.returns
-unfolding gather_in
-returns c = rw (c.answer_number.ensures, c.put_number.ensures, c.in_bytes.ensures) (gather_told _ _ c.if-number-ne-NUMBER.false _ _ _ c.gather-g.ensures)
+pub returns-in-Ok : goal.returns-in-Ok
+returns-in-Ok c = rw (c.fill.ensures.answer, c.fill.ensures.number, c.in_bytes.ensures) (gather_told _ _ c.if-number-ne-NUMBER.false _ _ _ c.in-Ok.ensures.told)
+
+pub returns-in-Err : goal.returns-in-Err
+returns-in-Err c = rw (c.fill-in-Err.ensures.answer, c.fill-in-Err.ensures.number) (gather_told _ _ c.if-number-ne-NUMBER.false _ _ _ c.in-Err.ensures.told)

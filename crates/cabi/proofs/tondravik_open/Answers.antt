@@ -6,4 +6,4 @@ use Rattle.cabi.proofs.tondravik_open.Goals as goal
 
 pub returns : goal.returns
 unfolding open_from
-returns c = plain _ _ _ _ _ c.answer_number.ensures c.open-r.ensures
+returns c = plain _ _ _ _ _ c.from.ensures c.open.ensures

@@ -6,4 +6,4 @@ use Rattle.cabi.proofs.tondravik_power_cycle.Goals as goal
 
 pub returns : goal.returns
 unfolding power_from
-returns c = plain _ _ _ _ _ c.answer_number.ensures c.power_cycle-r.ensures
+returns c = plain _ _ _ _ _ c.from.ensures c.power_cycle.ensures

@@ -13,4 +13,4 @@ returns-then-counts-ne-COUNTS c = unroomed_told c.args.image.now _ c.args.output
 
 pub returns : goal.returns
 unfolding transact_from
-returns c = counted_told c.args.image.now _ c.args.output.now c.args.counts.now _ _ _ _ _ _ c.if-counts-ne-COUNTS.false c.transact-r.ensures c.tell.ensures
+returns c = counted_told c.args.image.now _ c.args.output.now c.args.counts.now _ _ _ _ _ _ c.if-counts-ne-COUNTS.false c.transact.ensures c.tell.ensures

@@ -1,16 +1,20 @@
 -- `device::power_cycle` meets its contract: it is refused as the checks say, or what comes back is its family's.
 -- Assumes nothing.
-use mathlib.Core.Path.{sym, ap, ◌∙◌}
+use Rattle.std.proofs.Common.{refl, sym, ap, ◌∙◌}
 use Rattle.parts.specs.declared.Family.TheVariants.{Mram, Psram}
 use Rattle.parts.specs.Parts.{family_of}
 use Rattle.device.specs.Laws.{power_by, powered_so}
+use Rattle.device.proofs.power_cycle.Goals.{in-Mram, in-Psram}
 use Rattle.device.proofs.power_cycle.Goals as goal
 
-pub returns-then-is_refusal : goal.returns-then-is_refusal
-returns-then-is_refusal c = rw c.unclocked.ensures ((power_by _ _ c.bare-v.ensures).refused (sym c.is_refusal.ensures ∙ c.if-is_refusal.true))
+pub returns-in-Err : goal.returns-in-Err
+returns-in-Err c = let e = c.in-Err.ensures in rw c.unclocked.ensures ((power_by _ _ e.verdict).refused e.refused)
 
-pub returns-in-Mram : goal.returns-in-Mram
-returns-in-Mram c = rw (c.unclocked-in-Mram.ensures, c.powered.ensures) (powered_so _ _ Mram (sym (c.family.ensures ∙ ap family_of c.of-part.ensures) ∙ c.in-Mram.is) ((power_by _ _ c.bare-v.ensures).passed (sym c.is_refusal.ensures ∙ c.if-is_refusal.false)))
-
-pub returns-in-Psram : goal.returns-in-Psram
-returns-in-Psram c = rw (c.unclocked-in-Psram.ensures, c.powered-in-Psram.ensures, c.wipe.ensures) (powered_so _ _ Psram (sym (c.family.ensures ∙ ap family_of c.of-part.ensures) ∙ c.in-Psram.is) ((power_by _ _ c.bare-v.ensures).passed (sym c.is_refusal.ensures ∙ c.if-is_refusal.false)))
+pub returns : goal.returns
+returns c =
+    let known = sym (c.family.ensures ∙ ap family_of c.of.ensures) in
+    let e = (power_by _ _ c.in_default.ensures.verdict).passed refl in
+    elim c.match-family.branch [
+      | in-Mram w ↦ rw (c.unclocked-2.ensures, c.powered.ensures, w.memory-is) (powered_so _ _ Mram (known ∙ w.in-Mram.is) e)
+      | in-Psram w ↦ rw (c.unclocked-2.ensures, c.powered.ensures, w.memory-is, w.wipe.ensures) (powered_so _ _ Psram (known ∙ w.in-Psram.is) e)
+    ]

@@ -18,22 +18,22 @@ next-requires c = omega (arith, begun_few c.loop-x.invariant.1)
 
 pub loop-x-preserved : goal.loop-x-preserved
 loop-x-preserved c =
-    elim c.if-eq.branch [ 
-      then-eq w ↦
-        rw (w.page-is, w.number-is) (
-          w.put.ensures.same_buffer ∙ c.loop-x.invariant.0,
-          begun_full c.loop-x.invariant.1 c.loop-x-test.true c.if-x-eq0.false c.seen.ensures c.shift_in-number.ensures (rw c.next.ensures at c.unfinished-had.ensures)
-          (sym (rw c.none.ensures at c.eq.ensures) ∙ w.if-eq.true) w.put.ensures.put
-        )
+    elim c.if-eq.branch [
+      | then-eq w ↦
+          rw (w.page-is, w.number-is) (
+            w.put.ensures.same_buffer ∙ c.loop-x.invariant.0,
+            begun_full c.loop-x.invariant.1 c.loop-x-test.true c.if-x-eq0.false c.seen.ensures c.shift_in-number.ensures (rw c.next.ensures at c.unfinished-had.ensures)
+                (sym (rw c.none.ensures at c.eq.ensures) ∙ w.if-eq.true) w.put.ensures.put,
+          )
       | else-eq w ↦
-        rw (w.page-is, w.number-is) (
-          c.loop-x.invariant.0,
-          begun_more c.loop-x.invariant.1 c.loop-x-test.true c.if-x-eq0.false c.seen.ensures c.shift_in-number.ensures (rw c.next.ensures at c.unfinished-had.ensures)
-          (sym (rw c.none.ensures at c.eq.ensures) ∙ w.if-eq.false)
-        )
+          rw (w.page-is, w.number-is) (
+            c.loop-x.invariant.0,
+            begun_more c.loop-x.invariant.1 c.loop-x-test.true c.if-x-eq0.false c.seen.ensures c.shift_in-number.ensures (rw c.next.ensures at c.unfinished-had.ensures)
+                (sym (rw c.none.ensures at c.eq.ensures) ∙ w.if-eq.false),
+          )
     ]
 
 pub returns : goal.returns
 returns c =
     ended (rw c.begun-page.ensures.begun at (all_put (begun_end c.loop-x.invariant.1 c.loop-x-test.false) refl))
-      (rw c.place.ensures at (ap (λ (b : Bytes). b.0) c.stated.ensures)) (search rules)
+    (rw c.place.ensures at (ap (λ (b : Bytes). b.0) c.stated.ensures)) (search rules)

@@ -1,24 +1,18 @@
 -- `image_calls::open` meets its contract: bytes that are no image, or an open over the record.
 -- Assumes nothing.
-use mathlib.Core.Path.{sym, ◌∙◌}
 use mathlib.Core.List.{[]}
 use Rattle.image_check.proofs.Laws.{accepted_long}
 use Rattle.image_calls.specs.Calls.{open_in}
 use Rattle.image_calls.specs.Laws.{turned_away, carried}
 use Rattle.image_calls.proofs.open.Goals as goal
 
-pub returns-then-not-is_accepted : goal.returns-then-not-is_accepted
+pub returns-in_default : goal.returns-in_default
 unfolding open_in
-returns-then-not-is_accepted c = turned_away c.args.image.now c.args.memory.now c.args.area.now [] _ (sym c.is_accepted.ensures ∙ c.if-not-is_accepted.true) c.strange.ensures
-
-pub record_of-requires : goal.record_of-requires
-unfolding open_in
-record_of-requires c = accepted_long _ (sym c.is_accepted.ensures ∙ c.if-not-is_accepted.false)
+returns-in_default c = turned_away c.args.image.now c.args.memory.now c.args.area.now [] _ c.in_default.ensures c.strange.ensures
 
 pub leave-requires : goal.leave-requires
-unfolding open_in
-leave-requires c = accepted_long _ (sym c.is_accepted.ensures ∙ c.if-not-is_accepted.false)
+leave-requires c = accepted_long _ c.in-Some.ensures.0
 
 pub returns : goal.returns
 unfolding open_in
-returns c = carried c.args.image.now _ [] _ _ _ _ (sym c.is_accepted.ensures ∙ c.if-not-is_accepted.false) c.leave.ensures (rw c.record_of.ensures at c.open-o.ensures)
+returns c = carried c.args.image.now _ [] _ _ _ _ c.in-Some.ensures.0 c.leave.ensures (rw c.in-Some.ensures.1 at c.open.ensures)

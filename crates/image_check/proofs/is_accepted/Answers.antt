@@ -5,8 +5,8 @@ use Rattle.image.specs.Back.{shaped_long}
 use Rattle.image_check.specs.Accepted.{accepted}
 use Rattle.image_check.proofs.is_accepted.Goals as goal
 
-pub record_of-requires-then-is_shaped : goal.record_of-requires-then-is_shaped
-record_of-requires-then-is_shaped c = shaped_long _ (sym c.is_shaped.ensures ∙ c.if-is_shaped.true)
+pub record_of-requires : goal.record_of-requires
+record_of-requires c = shaped_long _ (sym c.is_shaped.ensures ∙ c.if-is_shaped.true)
 
 pub returns-then-is_shaped : goal.returns-then-is_shaped
 unfolding accepted

@@ -19,8 +19,8 @@ pub returns-in_default : goal.returns-in_default
 unfolding valid_record
 returns-in_default c = rw (MatchResult-at_err _ _ _ (sym c.try_from.ensures ∙ c.in_default.is) (named c.args.d.make.part))
 
-pub valid-requires-then-is_offered : goal.valid-requires-then-is_offered
-valid-requires-then-is_offered c =
+pub valid-requires : goal.valid-requires
+valid-requires c =
     let n = MatchResult-at_ok _ _ _ (sym c.try_from.ensures ∙ c.in-Ok.is) (named c.args.d.make.part) in
     offered_reach _ _ (rw n.1 at (sym c.is_offered.ensures ∙ c.if-is_offered.true))
 

@@ -1,6 +1,6 @@
 -- `machine_bytes::shut_among` meets its contract. The invariant: those so far are counted.
 -- Assumes nothing.
-use Rattle.std.proofs.Common.{refl, sym, ◌∙◌, arith}
+use Rattle.std.proofs.Common.{sym, ◌∙◌, arith}
 use Rattle.basis.specs.Counting.{how_many, how_many_le, counted_in, passed_over}
 use Rattle.machine_bytes.proofs.shut_among.Invariants.{shut}
 use Rattle.machine_bytes.proofs.shut_among.Goals.{then-protected_at, else-protected_at}

@@ -1,8 +1,10 @@
--- `commands::plans::wait_of` meets its contract: the last row is configuration 2; every other is read off the table.
+-- `commands::plans::wait_of` meets its contract: every row but the last is read off the table.
 -- Assumes nothing.
-use mathlib.Core.Path.{◌∙◌}
-use Rattle.commands.specs.PlanLaws.{wait_fixed}
+use Rattle.std.proofs.Common.{◌∙◌, sym}
+use Rattle.commands.specs.PlanLaws.{row_some, wait_fixed}
 use Rattle.commands.proofs.plans.wait_of.Goals as goal
 
 pub returns : goal.returns
-returns c = let e = c.wait_row-row.ensures in rw (c.stated-2.ensures, e, c.column.ensures) (wait_fixed c.args.k c.args.w c.args.cr2 (λ h. c.if-row-eq-BY_REGISTER.false (e ∙ h)))
+returns c =
+    let b = row_some c.args.k c.in-Some.row (sym c.wait_row.ensures ∙ c.in-Some.is) in
+    rw (c.stated-2.ensures, c.column.ensures, ← b.0) (wait_fixed c.args.k c.args.w c.args.cr2 b.1)

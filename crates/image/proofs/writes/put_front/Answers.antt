@@ -10,6 +10,6 @@ unfolding front_bytes
 returns-clause-put c =
     onto _ _ _
     (onto _ _ _
-      (onto _ _ _ (onto _ _ _ (rw c.bare_bytes.ensures at c.put_all.ensures.put) (eight_put _ _ (search rules) c.put_all-2.ensures.put)) (eight_put _ _ (search rules) c.put_all-3.ensures.put))
-      (eight_put _ _ (search rules) c.put_all-4.ensures.put))
+    (onto _ _ _ (onto _ _ _ (rw c.bare_bytes.ensures at c.put_all.ensures.put) (eight_put _ _ (search rules) c.put_all-2.ensures.put)) (eight_put _ _ (search rules) c.put_all-3.ensures.put))
+    (eight_put _ _ (search rules) c.put_all-4.ensures.put))
     c.put_all-5.ensures.put

@@ -1,7 +1,0 @@
--- `against_host::all` is safe and ends: the requests are counted.
--- Assumes nothing.
-use Prim.Native.Nat.{◌-◌}
-use Rattle.against_host.proofs.all.Given as goal
-
-abbrev pub decreases-loop-k : goal.decreases-loop-k
-decreases-loop-k l = 1000000 - l.k
