@@ -1,10 +1,9 @@
 -- Laws of sending: what a clock carries, and what is left after it.
 -- Assumes nothing.
 use Rattle.std.specs.Prelude.{◌≡◌, refl, ℕ, suc, ◌+◌, ◌-◌, ◌*◌, ◌/◌, ◌^◌, ◌<◌, ◌≤◌, Bool, true, false, cond, List, [], ◌∷◌, ◌++◌, length, get_or, drop, replicate}
-use Rattle.std.proofs.Common.{sym, ap, ◌∙◌, lt_of_lt_of_le, arith, drop_of_length-le, pow_mono, ltb-true, leb-true, leb-false}
+use Rattle.std.proofs.Common.{sym, ap, ◌∙◌, lt_of_lt_of_le, arith, drop_of_length-le, pow_mono, ltb-true}
 use Rattle.std.proofs.Math.Nat.{div-eq_of_lt, zero-mod}
 use Rattle.std.proofs.lemmas.List.{length-replicate, replicate-append-replicate}
-use Rattle.units.specs.declared.Clocks.{Clocks}
 use Rattle.units.specs.declared.Bytes.{Bytes}
 use Rattle.units.specs.declared.Wires.{Wires}
 use Rattle.units.specs.Units.{clocks, fewer_bytes, wires_of, per_byte, clocks_of, whole_of, clocks_within}

@@ -1,19 +1,18 @@
 -- EACH OFFSET HAS ITS FIELD, and what the code writes is the image.
 -- Assumes nothing.
-use Rattle.std.specs.Prelude.{◌≡◌, ℕ, suc, ◌+◌, ◌<◌, ◌≤◌, List, [], ◌∷◌, eqb, ◌++◌, length, get_or, take, drop, replicate}
+use Rattle.std.specs.Prelude.{◌≡◌, ℕ, suc, ◌+◌, ◌<◌, ◌≤◌, List, [], ◌∷◌, eqb, ◌++◌, length, get_or, take, drop}
 use Rattle.std.proofs.Math.Path.{refl, ap}
 use Rattle.std.proofs.Common.{sym, ◌∙◌, le_of_eq, add-one, arith, append-nil, drop_of_length-le, drop-cons, take_all}
 use Rattle.std.specs.List.{list_all}
 use Rattle.state_check.specs.States.{zeros}
 use Rattle.buffers.specs.Page.{Page, page, puts_of}
 use Rattle.buffers.specs.Laws.{puts_append, puts_front}
-use Rattle.record.specs.declared.devices.Underway.{Underway}
 use Rattle.record.specs.declared.devices.Device.{Device}
 use Rattle.image.specs.declared.fields.Field.{Field}
 use Rattle.image.specs.declared.fields.Field.TheVariants as At
 use Rattle.image.specs.Layout.{image_size}
 use Rattle.image.specs.Image.{eight_from, eight_of, field_of, image_of, piece_at}
-use Rattle.image.specs.Stretches.{bare_bytes, open_bytes, front_bytes, back_bytes}
+use Rattle.image.specs.Stretches.{front_bytes, back_bytes}
 
 -- ---- an image has its length, and at each offset of the table stands its field
 module _ (d : Device) where
