@@ -57,7 +57,8 @@ fn line(
 }
 
 // Every record, to the end or to one that is bad. A payload longer than any transaction has is a bad record; the output that is
-// lent for any other is longer than its samples.
+// lent for any other is longer than its samples. The loop is its own: `bench_play` lends one output for all records, and a closure that is
+// given all that is lent is no plainer.
 pub fn put_turns(
     page: &mut Page,
     tape: &[u8],

@@ -66,7 +66,8 @@ fn put_turn(
     put_played(page, t.entry, old, new, t.outcome, r.payload(), output)
 }
 
-// Every record, to the end or to one that is bad. `before` has room for the bytes as they were before a record.
+// Every record, to the end or to one that is bad. `before` has room for the bytes as they were before a record. The loop is its own: it
+// keeps bytes before a record is played, and a closure that is given all that is lent is no plainer.
 pub fn put_turns(
     page: &mut Page,
     tape: &[u8],

@@ -220,7 +220,8 @@ fn play(
     }
 }
 
-// The record at a place of the tape, played.
+// The record at a place of the tape, played. Memory, area and output are lent apart, as the calls of the device and the C interface have
+// them.
 #[tactic(auto, using(crate::specs::Laws::found_first, crate::specs::Laws::found_last), unfolding(crate::specs::Play::played_at))]
 pub fn play_at(
     tape: &[u8],

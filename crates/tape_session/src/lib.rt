@@ -51,7 +51,8 @@ pub fn start() -> Session
 }
 
 // The record at the session's place, played on the chip's part of memory and area. Where it cannot be played, or
-// too little is lent for its chip, nothing changes.
+// too little is lent for its chip, nothing changes. Memory, area and output are lent apart, as the calls of the device and the C interface
+// have them.
 #[tactic(auto, unfolding(crate::specs::Session::turn_of))]
 pub fn advance(
     s: Session,
