@@ -1,11 +1,12 @@
 // A page: bytes gathered in a lent buffer, one after the other. What finds no room is left out, and the place stays.
 #![tactic(auto)]
 
-ghost use Rattle.std.specs.Prelude.{◌≡◌, ◌+◌, ◌*◌, length};
+ghost use Rattle.std.specs.Prelude.{◌≡◌, ◌+◌, ◌*◌, ◌/◌, cond, [], length, take, leb, ltb};
 ghost use Rattle.buffers.specs.Page.{page, put_of, puts_of};
 ghost use Rattle.buffers.specs.Shown.{shown};
 
 use std::fmt;
+use std::fmt::Write;
 
 // The buffer, and the place where the next byte goes.
 #[derive(Drop)]
@@ -61,7 +62,9 @@ impl Page<'_> {
     }
 
     // What stands before the place, and nothing where that is past the buffer.
-    pub fn written(&self) -> &[u8] {
+    pub fn written(&self) -> &[u8]
+        ensures { result.now ≡ cond (leb self.now.at (length self.now.bytes.now)) (take self.now.at self.now.bytes.now) [] }
+    {
         self.bytes.get(..self.at).unwrap_or(&[])
     }
 
@@ -74,15 +77,31 @@ impl Page<'_> {
     }
 
     // Whether more than half of the buffer is full.
-    pub fn is_half_full(&self) -> bool {
+    pub fn is_half_full(&self) -> bool
+        ensures { result ≡ ltb (length self.now.bytes.now / 2) self.now.at }
+    {
         self.bytes.len() / 2 < self.at
+    }
+
+    // A text.
+    pub fn write_str(&mut self, text: &str)
+        ensures same_buffer { self.new.bytes.ghost_name ≡ self.old.bytes.ghost_name }
+        ensures put { shown self.new ≡ puts_of text.now (shown self.old) }
+    {
+        self.put_all(text.as_bytes());
+    }
+
+    // What `write!` and `writeln!` call. It has no result, since a page refuses nothing: what finds no room is left out.
+    pub fn write_fmt<D: fmt::Display + Drop>(&mut self, text: D) {
+        let _ = self.write(text);
     }
 }
 
-// Text by `write!`, which never fails: what finds no room is left out.
 impl fmt::Write for Page<'_> {
+    ghost write_str_gives = { λ old text new. (new.bytes.ghost_name ≡ old.bytes.ghost_name) × (shown new ≡ puts_of text (shown old)) };
+
     fn write_str(&mut self, s: &str) -> fmt::Result {
-        self.put_all(s.as_bytes());
+        Page::write_str(self, s);
         Ok(())
     }
 }

@@ -225,7 +225,6 @@ pub record DrivenInChunks (o : paper.Order) (d : Device) (l : Lent) : Type 0 whe
   pub gathered : Result Bytes Answer
   pub bytes : List ℕ
   pub gathers : gathered_as gathered bytes ≡ collect_of (wires_of (wires_in o)) (put_together cut outs) store
-  pub refused : NeverDone gathered
 
 -- what the driver has then: as much as of the whole transaction
 pub record ServedInChunks (o : paper.Order) (d : Device) (l : Lent) (p : DrivenInChunks o d l) : Type 0 where
@@ -234,7 +233,7 @@ pub record ServedInChunks (o : paper.Order) (d : Device) (l : Lent) (p : DrivenI
   pub done : reads (body_meant o) ≡ true → p.outcome.answer ≡ Done
   pub heard : reads (body_meant o) ≡ true → (bytes_driven (body_meant o) o.wanted).0 ≤ length p.store
       → gathered_as p.gathered p.bytes ≡ record { answer = Done; number = bytes_driven (body_meant o) o.wanted; buffer = over (bytes_read o d l) p.store }
-  pub gathered : reads (body_meant o) ≡ true → (bytes_driven (body_meant o) o.wanted).0 ≤ length p.store → p.gathered ≡ Ok (bytes_driven (body_meant o) o.wanted)
+  pub gathered : NeverDone p.gathered → reads (body_meant o) ≡ true → (bytes_driven (body_meant o) o.wanted).0 ≤ length p.store → p.gathered ≡ Ok (bytes_driven (body_meant o) o.wanted)
 
 module _ (q : Order) (written : List ℕ) (d : Device) (l : Lent) (sp : Spelled (order_as q written)) (m : Meant (order_as q written) d) (p : DrivenInChunks (order_as q written) d l)
     (i : Idle (record { device = d; lent = l })) where
@@ -280,7 +279,6 @@ module _ (q : Order) (written : List ℕ) (d : Device) (l : Lent) (sp : Spelled 
         gathered = p.gathered;
         bytes = p.bytes;
         gathers = p.gathers ∙ ap (λ (ys : List ℕ). collect_of (wires_of (wires_in o)) ys p.store) (driven_own _ i p.through ∙ sym all_told);
-        refused = p.refused;
       }
 
   served_idle : Lendable d l xs (undriven xs) → ServedInChunks o d l p

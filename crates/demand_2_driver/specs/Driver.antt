@@ -50,7 +50,6 @@ pub record Driven (o : paper.Order) (d : Device) (l : Lent) : Type 0 where
   pub gathered : Result Bytes Answer
   pub bytes : List ℕ
   pub gathers : gathered_as gathered bytes ≡ collect_of (wires_of (wires_in o)) (first clocks output) store
-  pub refused : NeverDone gathered
 
 -- WHAT A DRIVER HAS THEN
 pub record Served (o : paper.Order) (d : Device) (l : Lent) (c : Driven o d l) : Type 0 where
@@ -62,7 +61,8 @@ pub record Served (o : paper.Order) (d : Device) (l : Lent) (c : Driven o d l) :
   pub done : reads (body_meant o) ≡ true → c.outcome.answer ≡ Done
   pub heard : reads (body_meant o) ≡ true → (bytes_driven (body_meant o) o.wanted).0 ≤ length c.store
       → gathered_as c.gathered c.bytes ≡ record { answer = Done; number = bytes_driven (body_meant o) o.wanted; buffer = over (bytes_read o d l) c.store }
-  pub gathered : reads (body_meant o) ≡ true → (bytes_driven (body_meant o) o.wanted).0 ≤ length c.store → c.gathered ≡ Ok (bytes_driven (body_meant o) o.wanted)
+  -- `gather` says then that it is done, since what it refuses is never answered 0
+  pub gathered : NeverDone c.gathered → reads (body_meant o) ≡ true → (bytes_driven (body_meant o) o.wanted).0 ≤ length c.store → c.gathered ≡ Ok (bytes_driven (body_meant o) o.wanted)
 
 -- what is told with 0 is no refusal
 done_is_ok : (r : Result Bytes Answer) (b : List ℕ) {t : Told Bytes} → NeverDone r → gathered_as r b ≡ t → t.answer ≡ Done → r ≡ Ok t.number
@@ -106,5 +106,5 @@ module _ (q : Order) (written : List ℕ) (d : Device) (l : Lent) (sp : Spelled 
         answer = ap (λ (w : World). faultless w.answer) c.transacts ∙ u.answer;
         done = λ e. ap (λ (w : World). w.answer) c.transacts ∙ u.done e;
         heard = h;
-        gathered = λ e f. done_is_ok c.gathered c.bytes c.refused (h e f) refl;
+        gathered = λ n e f. done_is_ok c.gathered c.bytes n (h e f) refl;
       }
