@@ -14,7 +14,7 @@ use record::{Device, Outcome};
 use units::Clocks;
 
 // Where so many clocks more come to, or the end of all that there are.
-#[tactic(auto, using(units::specs::Compared::lt_is), unfolding(crate::specs::Stretches::reach_of))]
+#[tactic(auto, unfolding(crate::specs::Stretches::reach_of))]
 fn reach(from: Clocks, c: Clocks, all: Clocks) -> Clocks
     requires { (from.0 ≤ all.0) × (all.0 ≤ 65535) }
     ensures { result ≡ clocks (reach_of from c all.0) }
