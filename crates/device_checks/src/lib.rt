@@ -47,11 +47,7 @@ pub fn has_room(samples: &[u8], output: &[u8]) -> bool
 fn so_far(u: Underway) -> Clocks
     ensures { result ≡ so_far u }
 {
-    if u.selected {
-        u.clocks
-    } else {
-        Clocks::none()
-    }
+    if u.selected { u.clocks } else { Clocks::none() }
 }
 
 // Whether so many clocks more are few enough.
