@@ -108,9 +108,10 @@ fn declined(d: Device, answer: Answer) -> Device
     ensures { result ≡ declined_to answer d }
 {
     if is_protected(answer) {
-        return burst_done(d);
+        burst_done(d)
+    } else {
+        d
     }
-    d
 }
 
 // Whether a command of this kind needs the latch.
@@ -123,7 +124,8 @@ fn latch_needed(family: Family, cr4: u8, k: Kind) -> bool
     }
 }
 
-// Whether it needs the latch and the latch is down.
+// Whether it needs the latch and the latch is down. Family, register and latch are parameters, as `latch_missing` of the definitions
+// takes them: one caller has them of a setting and the latch beside it, another of `Terms`.
 #[tactic(auto, unfolding(crate::specs::Latches::latch_missing))]
 pub fn latch_missing(family: Family, cr4: u8, latch: bool, k: Kind) -> bool
     ensures { result ≡ latch_missing family cr4 latch k }
@@ -135,9 +137,9 @@ fn kind_needs(cr4: u8, k: Kind) -> bool
     ensures { result ≡ kind_needs cr4 k }
 {
     match k {
-        Kind::Unknown | Kind::Plain(_) | Kind::Read(_) | Kind::Write(Target::Mode) => false,
         Kind::Write(Target::Register(_)) => true,
         Kind::Write(Target::Memory(_) | Target::Area) => cr4 % 4 != 1,
+        _ => false,
     }
 }
 

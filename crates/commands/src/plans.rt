@@ -69,7 +69,7 @@ pub fn wait_of(k: Kind, w: Wires, cr2: u8) -> Clocks
     ensures { result ≡ wait_of k w cr2 }
 {
     let Some(row) = wait_row(k) else {
-        return Clocks::stated((cr2 % 16) as usize);
+        return Clocks::stated(usize::from(cr2 % 16));
     };
     Clocks::stated(WAITS[3 * row + column(w)])
 }

@@ -1,4 +1,10 @@
 // The device: a transaction, whole or fed in chunks, and a power cycle, each behind its checks. Nothing is asked of the caller.
+//
+// A refusal is an outcome like any other, with the record as it was, and no error of the call. So each of the five says at its checks
+// what it answers: with `?` each would be two functions, one that gives a Result and one that makes an outcome of it.
+//
+// Record, memory, area, samples and output are lent each for itself, as the C interface lends them; why memory and area are not one
+// struct stands at `machine_bytes::put_at`.
 #![tactic(auto)]
 
 ghost use Rattle.std.specs.Prelude.{◌≡◌, [], length, replicate};

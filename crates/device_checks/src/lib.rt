@@ -1,5 +1,6 @@
 // The checks before a call of the device, in their order: for each of the two lists a function that passes, or refuses with the
-// answer of the first check that fails. Nothing is asked of the caller.
+// answer of the first check that fails. Nothing is asked of the caller. Memory and area are lent as two slices; why, stands at
+// `machine_bytes::put_at`.
 #![tactic(auto)]
 
 ghost use Rattle.std.specs.Prelude.{◌≡◌, [], ◌∷◌, ◌≤◌, true, not, ltb, IfErr};
@@ -46,10 +47,7 @@ pub fn has_room(samples: &[u8], output: &[u8]) -> bool
 fn so_far(u: Underway) -> Clocks
     ensures { result ≡ so_far u }
 {
-    if u.selected {
-        return u.clocks;
-    }
-    Clocks::none()
+    if u.selected { u.clocks } else { Clocks::none() }
 }
 
 // Whether so many clocks more are few enough.
@@ -82,10 +80,7 @@ fn check(passed: bool, v: Answer) -> Result<(), Answer>
     ensures verdict { told result ≡ first_of Done ((not passed, v) ∷ []) }
     ensures refused { IfErr result (λ v. refuses v ≡ true) }
 {
-    if passed {
-        return Ok(());
-    }
-    Err(v)
+    if passed { Ok(()) } else { Err(v) }
 }
 
 // The checks that each list ends with: the state, and then whose turn it is. An untimely call is out of turn.

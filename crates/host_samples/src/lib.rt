@@ -10,23 +10,13 @@ ghost use Rattle.buffers.specs.Shown.{shown};
 ghost use Rattle.paper.specs.Building.{spread_all, silent};
 
 use buffers::Page;
-use units::{Bytes, Clocks, Wires, bits_in, byte_clocks, clocks_within};
-
-// The bits of a number. Every clock carries one at least, so no number is spread over more clocks.
-const NUMBER: usize = 32;
+use units::{Bytes, Clocks, Wires, byte_clocks, clocks_within};
 
 // The bits of `v` that have so many clocks' bits below them. There are none past its last.
 fn bits_above(v: u32, below: Clocks, w: Wires) -> u8
     ensures { result ≡ above w below.0 v }
 {
-    if Clocks::stated(NUMBER) <= below {
-        return 0;
-    }
-    let shift = bits_in(below, w);
-    if NUMBER <= shift {
-        return 0;
-    }
-    ((v >> shift) % u32::from(wires::values(w))) as u8
+    (wires::shifted(v, below, w) % u32::from(wires::values(w))) as u8
 }
 
 // The low bits of `v`, in so many clocks.

@@ -1,6 +1,7 @@
 // One byte of a burst: stored where it lies, or read and driven; and how many of a burst lie at protected places.
 //
-// The number of the byte is below 65,536 and the memory no larger than an address reaches, as in `places`.
+// The number of the byte is below 65,536 and the memory no larger than an address reaches, as in `places`, where it stands why no type
+// has these bounds.
 #![tactic(auto)]
 
 ghost use Rattle.std.specs.Prelude.{◌≡◌, ◌≤◌, get_or, set};
@@ -29,12 +30,14 @@ pub fn protected_at(a: Aim, i: Bytes) -> bool
 {
     let s = a.setting;
     if is_into_area(a.kind) {
-        return places::area_protected(s, places::area_place(s.part, a.address, i));
+        places::area_protected(s, places::area_place(s.part, a.address, i))
+    } else {
+        places::protected(s, places::write_place(s, a.address, i))
     }
-    places::protected(s, places::write_place(s, a.address, i))
 }
 
-// How many of the first `m` bytes of a write lie at protected places: one walk over them.
+// How many of the first `m` bytes of a write lie at protected places: one walk over them. The definition counts by `how_many`, up to a
+// number; for `filter` and `count` over the range, which count over a list, the proof does not close.
 pub fn shut_among(a: Aim, m: Bytes) -> Bytes
     requires { (a.setting.n ≤ 24) × (m.0 ≤ 65535) }
     ensures { result ≡ shut_among a m }
@@ -50,7 +53,7 @@ pub fn shut_among(a: Aim, m: Bytes) -> Bytes
 
 // A byte at a place, where the store has it. The place is tested: `get_mut` would tell nothing of the other bytes, and the clause
 // tells all of them.
-fn put(store: &mut [u8], place: usize, b: u8)
+pub fn put(store: &mut [u8], place: usize, b: u8)
     ensures { store.new ≡ set store.old place b }
 {
     if place < store.len() {
@@ -87,7 +90,8 @@ fn mapped_byte(d: Device, m: Option<Register>, i: Bytes) -> u8
     m.map_or(0, |r| d.shown_byte(r, i))
 }
 
-// Byte `i` of what a read finds at its source.
+// Byte `i` of what a read finds at its source. The definitions from `found_at` to `driven_at` take record, kind, address and what is
+// lent one by one, and so do the functions; an `Aim` has a setting alone, and the registers that are read stand in the record.
 fn found_at(d: Device, from: Source, address: u32, memory: &[u8], area: &[u8], i: Bytes) -> u8
     requires { (d.make.n ≤ 24) × (i.0 ≤ 65535) }
     ensures { result ≡ found_at d from address (lends memory.now area.now) i }

@@ -15,7 +15,8 @@ use progress::{Phase, Progress, Tally};
 use record::{Device, Setting, Underway};
 use units::{Clocks, Wires};
 
-// The phase that so many clocks have come to.
+// The phase that so many clocks have come to. Setting, kind and address are parameters of their own, as `phase_by` of the definitions
+// takes them and as `plan_in_force` does.
 #[tactic(auto, using(units::specs::Compared::gt_is), unfolding(crate::specs::Chunks::phase_by))]
 fn phase_by(s: Setting, k: Kind, address: u32, c: Counts) -> Phase
     requires { s.n ≤ 24 }
@@ -32,9 +33,10 @@ fn phase_by(s: Setting, k: Kind, address: u32, c: Counts) -> Phase
     }
     let body = plan_in_force::body_for(s, k, address);
     if machine_phases::is_full(body, plan_in_force::wires_for(s, k), c.body) {
-        return Phase::Rest;
+        Phase::Rest
+    } else {
+        Phase::Data
     }
-    Phase::Data
 }
 
 // Where the machine stands in the open transaction.
@@ -45,7 +47,7 @@ pub fn resume(s: Setting, u: Underway) -> Progress
 {
     let kind = underway::kind_at(s, u);
     let counts = underway::counts_at(s, u);
-    let value = u.value;
+    let value = u.value; // an array goes into a struct by a variable alone
     Progress {
         phase: phase_by(s, kind, u.address, counts),
         kind,
@@ -65,7 +67,7 @@ fn gathered(w: Wires, number: u32, samples: &[u8], most: Clocks) -> u32
         .fold(number, |n, x| wires::shift_in(n, *x, w))
 }
 
-// The opcode after a chunk: the command may come whole in it.
+// The opcode after a chunk: the command may come whole in it. It is the low eight bits of what is gathered, which no `From` cuts off.
 #[tactic(auto, using(units::specs::Compared::lt_is, units::specs::Compared::le_is), unfolding(crate::specs::Chunks::opcode_after))]
 fn opcode_after(s: Setting, u: Underway, samples: &[u8]) -> u8
     ensures { result ≡ opcode_after s u samples.now }
@@ -73,9 +75,10 @@ fn opcode_after(s: Setting, u: Underway, samples: &[u8]) -> u8
     let command = plan_in_force::command_clocks(s);
     let missing = command.past(u.clocks);
     if u.clocks < command && missing <= Clocks::of_samples(samples) {
-        return (gathered(s.wires, u.number, samples, missing) % 256) as u8;
+        (gathered(s.wires, u.number, samples, missing) % 256) as u8
+    } else {
+        u.opcode
     }
-    u.opcode
 }
 
 // What the record keeps of where the machine stands.
@@ -83,7 +86,7 @@ fn pause(opcode: u8, p: Progress) -> Underway
     requires { (total p.tally.counts).0 ≤ 65535 }
     ensures { result ≡ paused_of opcode p }
 {
-    let value = p.tally.value;
+    let value = p.tally.value; // by a variable, as above
     Underway {
         selected: true,
         clocks: p.tally.counts.total(),

@@ -10,7 +10,7 @@ ghost use Rattle.machine_phases.specs.Machine.{byte_in, last_at, held, data_held
 
 use changes::latch_missing;
 use commands::plans::{Body, is_write};
-use machine_bytes::{driven_at, protected_at, put_at};
+use machine_bytes::{driven_at, protected_at, put, put_at};
 use machine_phases::Terms;
 use progress::{Phase, Progress, Tally};
 use record::{Aim, Device};
@@ -27,14 +27,12 @@ pub struct Holding {
 fn with_byte(mut value: [u8; 8], i: Bytes, b: u8) -> [u8; 8]
     ensures { result ≡ set value i.0 b }
 {
-    let at = i.in_bytes();
-    if at < value.len() {
-        value[at] = b;
-    }
+    put(&mut value, i.in_bytes(), b);
     value
 }
 
-// A whole byte of a burst: held back, skipped where it is protected, or stored.
+// A whole byte of a burst: held back, skipped where it is protected, or stored. `hold` stands beside the aim and not in it, here and in
+// the two functions below, since `byte_in` takes it apart, and an `Aim` serves those too who know no latch.
 fn store_byte(hold: bool, a: Aim, i: Bytes, b: u8, memory: &mut [u8], area: &mut [u8])
     requires { (a.setting.n ≤ 24) × (i.0 ≤ 65535) }
     ensures { lends memory.new area.new ≡ cond hold (lends memory.old area.old) (stored a i b (lends memory.old area.old)) }
@@ -75,7 +73,8 @@ fn is_last(t: Clocks, w: Wires) -> bool
     units::unfinished(t.next(), w) == Clocks::none()
 }
 
-// Data clock `t` of a write: the bits are gathered, and with a byte's last clock the byte is taken.
+// Data clock `t` of a write: the bits are gathered, and with a byte's last clock the byte is taken: the low eight bits of what is
+// gathered, which no `From` cuts off.
 #[tactic(auto, unfolding(machine_phases::specs::Machine::held))]
 fn hold_clock(
     hold: bool,
@@ -93,12 +92,13 @@ fn hold_clock(
     let number = wires::shift_in(h.number, x, w);
     if is_last(t, w) {
         let i = units::clocks_to_bytes(t, w);
-        return Holding {
+        Holding {
             number: 0,
             value: take_byte(hold, a, i, (number % 256) as u8, h.value, memory, area),
-        };
+        }
+    } else {
+        Holding { number, ..h }
     }
-    Holding { number, ..h }
 }
 
 // What a data clock leaves of the data: a write gathers its bytes, a read gathers nothing.
@@ -108,7 +108,7 @@ fn hold_data(h: Terms, p: Progress, x: u8, memory: &mut [u8], area: &mut [u8]) -
     ensures { held_as result.number result.value memory.new area.new ≡ data_held h (run_as p memory.old area.old) x }
 {
     let s = h.setting;
-    let value = p.tally.value;
+    let value = p.tally.value; // an array goes into a struct by a variable alone
     let start = Holding {
         number: p.number,
         value,
@@ -132,17 +132,17 @@ fn data_step(h: Terms, p: Progress, x: u8, memory: &mut [u8], area: &mut [u8]) -
     requires { (h.setting.n ≤ 24) × ((total p.tally.counts).0 < 65535) }
     ensures { run_as result memory.new area.new ≡ data_step h (run_as p memory.old area.old) x }
 {
-    let s = h.setting;
-    let kind = p.kind;
     let g = hold_data(h, p, x, memory, area);
     let counts = p.tally.counts.tick(Phase::Data);
-    let value = g.value;
+    let value = g.value; // by a variable, as above
     let next = Tally { counts, value };
-    let body = plan_in_force::body_for(s, kind, p.address);
-    if machine_phases::is_full(body, plan_in_force::wires_for(s, kind), counts.body) {
-        return Progress::entered(Phase::Rest, kind, p.address, next);
+    let body = plan_in_force::body_for(h.setting, p.kind, p.address);
+    let w = plan_in_force::wires_for(h.setting, p.kind);
+    if machine_phases::is_full(body, w, counts.body) {
+        Progress::entered(Phase::Rest, p.kind, p.address, next)
+    } else {
+        p.onward(g.number, next)
     }
-    p.onward(g.number, next)
 }
 
 // One clock, whatever its phase.
@@ -151,11 +151,10 @@ pub fn step(h: Terms, p: Progress, x: u8, memory: &mut [u8], area: &mut [u8]) ->
     requires { (h.setting.n ≤ 24) × ((total p.tally.counts).0 < 65535) }
     ensures { run_as result memory.new area.new ≡ step_of h (run_as p memory.old area.old) x }
 {
-    let s = h.setting;
     match p.phase {
-        Phase::Command => machine_phases::command_step(s, p, x),
-        Phase::Address => machine_phases::address_step(s, p, x),
-        Phase::Wait => machine_phases::wait_step(s, p),
+        Phase::Command => machine_phases::command_step(h.setting, p, x),
+        Phase::Address => machine_phases::address_step(h.setting, p, x),
+        Phase::Wait => machine_phases::wait_step(h.setting, p),
         Phase::Data => data_step(h, p, x, memory, area),
         Phase::Rest => machine_phases::rest_step(p),
     }

@@ -1,4 +1,5 @@
-// The answer of a transaction, judged at its end by the papers' table, and the record that it leaves.
+// The answer of a transaction, judged at its end by the papers' table, and the record that it leaves. That the counts are no more than
+// 65,535 is asked for and not a type's invariant, as in `machine_phases`.
 #![tactic(auto)]
 
 ghost use Rattle.std.specs.Prelude.{◌≡◌, ◌≤◌};

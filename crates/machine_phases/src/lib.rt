@@ -1,6 +1,7 @@
 // A transaction, clock by clock: one small function for each phase but the data, over a progress by value.
 //
-// The counts are below 65,535 before a clock is taken, as no transaction has more clocks than that.
+// The counts are below 65,535 before a clock is taken, as no transaction has more clocks than that. `Progress` has no invariant that
+// says so, since the definitions, here and in the crates that run these steps, speak of any progress; so the contracts ask for it.
 #![tactic(auto)]
 
 ghost use Rattle.std.specs.Prelude.{◌≡◌, ◌<◌, ◌≤◌};
@@ -42,20 +43,19 @@ pub fn is_full(b: Body, w: Wires, t: Clocks) -> bool
     }
 }
 
-// Past the wait: the data, or the rest where there is none.
+// Past the wait: the data, or the rest where there is none. Here and below setting, kind and address are parameters of their own, as
+// the definitions take them and as `plan_in_force` does: an `Aim` would be built in each function to be taken apart in the next.
 #[tactic(auto, unfolding(crate::specs::Machine::to_data))]
 fn to_data(s: Setting, k: Kind, address: u32, tally: Tally) -> Progress
     requires { s.n ≤ 24 }
     ensures { result ≡ to_data s k address tally }
 {
-    if is_full(
-        plan_in_force::body_for(s, k, address),
-        plan_in_force::wires_for(s, k),
-        Clocks::none(),
-    ) {
-        return Progress::entered(Phase::Rest, k, address, tally);
+    let body = plan_in_force::body_for(s, k, address);
+    if is_full(body, plan_in_force::wires_for(s, k), Clocks::none()) {
+        Progress::entered(Phase::Rest, k, address, tally)
+    } else {
+        Progress::entered(Phase::Data, k, address, tally)
     }
-    Progress::entered(Phase::Data, k, address, tally)
 }
 
 // Past the address: the wait, if there is one.
@@ -65,9 +65,10 @@ fn to_wait(s: Setting, k: Kind, address: u32, tally: Tally) -> Progress
     ensures { result ≡ to_wait s k address tally }
 {
     if plan_in_force::wait_clocks(s, k, address) <= Clocks::none() {
-        return to_data(s, k, address, tally);
+        to_data(s, k, address, tally)
+    } else {
+        Progress::entered(Phase::Wait, k, address, tally)
     }
-    Progress::entered(Phase::Wait, k, address, tally)
 }
 
 // Past the command: the address, if there is one.
@@ -77,9 +78,10 @@ fn to_address(s: Setting, k: Kind, tally: Tally) -> Progress
     ensures { result ≡ to_address s k tally }
 {
     if plan_in_force::address_clocks(s, k) <= Clocks::none() {
-        return to_wait(s, k, 0, tally);
+        to_wait(s, k, 0, tally)
+    } else {
+        Progress::entered(Phase::Address, k, 0, tally)
     }
-    Progress::entered(Phase::Address, k, 0, tally)
 }
 
 // The tally with one clock more of a phase.
@@ -90,7 +92,9 @@ fn ticked(p: Progress, phase: Phase) -> Tally
     p.tally.counting(p.tally.counts.tick(phase))
 }
 
-// A clock of the command.
+// A clock of the command. The three steps from here on have a shape in common, and definitions of their own: each gathers on other
+// wires or not at all, and asks another length and another next phase, so one function with these as closures would be no plainer.
+// An opcode is the low eight bits of what is gathered; no `From` cuts a number.
 #[tactic(auto, using(units::specs::Compared::le_is), unfolding(crate::specs::Machine::command_step))]
 pub fn command_step(s: Setting, p: Progress, x: u8) -> Progress
     requires { (s.n ≤ 24) × ((total p.tally.counts).0 < 65535) }
@@ -100,9 +104,10 @@ pub fn command_step(s: Setting, p: Progress, x: u8) -> Progress
     let tally = ticked(p, Phase::Command);
     if plan_in_force::command_clocks(s) <= tally.counts.command {
         let k = kind_of(s.part.family(), s.wires, (number % 256) as u8);
-        return to_address(s, k, tally);
+        to_address(s, k, tally)
+    } else {
+        p.onward(number, tally)
     }
-    p.onward(number, tally)
 }
 
 // A clock of the address.
@@ -111,13 +116,13 @@ pub fn address_step(s: Setting, p: Progress, x: u8) -> Progress
     requires { (s.n ≤ 24) × ((total p.tally.counts).0 < 65535) }
     ensures { result ≡ address_step s p x }
 {
-    let kind = p.kind;
-    let number = wires::shift_in(p.number, x, plan_in_force::wires_for(s, kind));
+    let number = wires::shift_in(p.number, x, plan_in_force::wires_for(s, p.kind));
     let tally = ticked(p, Phase::Address);
-    if plan_in_force::address_clocks(s, kind) <= tally.counts.address {
-        return to_wait(s, kind, number, tally);
+    if plan_in_force::address_clocks(s, p.kind) <= tally.counts.address {
+        to_wait(s, p.kind, number, tally)
+    } else {
+        p.onward(number, tally)
     }
-    p.onward(number, tally)
 }
 
 // A clock of the wait.
@@ -126,12 +131,12 @@ pub fn wait_step(s: Setting, p: Progress) -> Progress
     requires { (s.n ≤ 24) × ((total p.tally.counts).0 < 65535) }
     ensures { result ≡ wait_step s p }
 {
-    let kind = p.kind;
     let tally = ticked(p, Phase::Wait);
-    if plan_in_force::wait_clocks(s, kind, p.address) <= tally.counts.wait {
-        return to_data(s, kind, p.address, tally);
+    if plan_in_force::wait_clocks(s, p.kind, p.address) <= tally.counts.wait {
+        to_data(s, p.kind, p.address, tally)
+    } else {
+        p.onward(0, tally)
     }
-    p.onward(0, tally)
 }
 
 // A clock past all that the command has.

@@ -10,6 +10,8 @@ use machine_clock::{drive, step};
 use progress::Progress;
 use record::Device;
 
+// The output is written by the index of the sample: in a `zip` with `output.iter_mut()` it stands inside the iterator, where the
+// loop's invariant, `Running`, has no output to speak of, and the proof does not close.
 pub fn feed(
     d: Device,
     p: Progress,

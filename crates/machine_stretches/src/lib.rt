@@ -14,15 +14,12 @@ use record::{Device, Outcome};
 use units::Clocks;
 
 // Where so many clocks more come to, or the end of all that there are.
-#[tactic(auto, using(units::specs::Compared::lt_is), unfolding(crate::specs::Stretches::reach_of))]
+#[tactic(auto, unfolding(crate::specs::Stretches::reach_of))]
 fn reach(from: Clocks, c: Clocks, all: Clocks) -> Clocks
     requires { (from.0 ≤ all.0) × (all.0 ≤ 65535) }
     ensures { result ≡ clocks (reach_of from c all.0) }
 {
-    if c < all - from {
-        return from + c;
-    }
-    all
+    from + c.up_to(all - from)
 }
 
 // The next clocks of the samples, so many or as many as are left, fed as a part of the slices.

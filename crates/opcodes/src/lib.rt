@@ -40,7 +40,8 @@ fn entry(kind: Kind, modes: Modes) -> Option<Meaning>
     Some(Meaning { kind, modes })
 }
 
-// The row of an opcode that the MRAM alone has, and of one that the PSRAM alone has.
+// The row of an opcode that the MRAM alone has, and of one that the PSRAM alone has. One function with the family beside kind and
+// modes would say the same in more words, in each of the rows below.
 fn on_mram(kind: Kind, modes: Modes) -> Row
     ensures { result ≡ record { mram = entry kind modes; psram = None } }
 {

@@ -221,21 +221,21 @@ const SHARES: [usize; 8] = [0, 1, 2, 4, 8, 16, 32, 64];
 pub fn wrap_length(cr3: u8) -> Bytes
     ensures { result ≡ wrap_length cr3 }
 {
-    Bytes::stated(WRAPS[(cr3 % 8) as usize])
+    Bytes::stated(WRAPS[usize::from(cr3 % 8)])
 }
 
 // The group inside which the PSRAM wraps, by the mode register.
 pub fn group_length(mr0: u8) -> Bytes
     ensures { result ≡ group_length mr0 }
 {
-    Bytes::stated(GROUPS[(mr0 / 32 % 4) as usize])
+    Bytes::stated(GROUPS[usize::from(mr0 / 32 % 4)])
 }
 
 // How many of 64 equal parts of memory the status register protects.
 pub fn share(status: u8) -> usize
     ensures { result ≡ share_of status }
 {
-    SHARES[(status / 4 % 8) as usize]
+    SHARES[usize::from(status / 4 % 8)]
 }
 
 // Whether a part has memories of 2^n bytes.

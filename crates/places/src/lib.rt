@@ -3,7 +3,8 @@
 //
 // A byte takes at least two clocks, so the 65,535 clocks of a transaction carry fewer bytes than that; and
 // no memory is larger than an address of 24 bits reaches. The `requires` below ask for both, and the checks
-// of sizes have seen to them before anything comes here.
+// of sizes have seen to them before anything comes here. `Bytes::stated` takes any number, and the definitions speak of any, so the
+// number of a byte has no type of its own that bounds it.
 #![tactic(auto)]
 
 ghost use Rattle.std.specs.Prelude.{◌≡◌, ◌+◌, ◌<◌, ◌≤◌};
@@ -65,9 +66,10 @@ fn group_in_force(mr0: u8, toggle: bool) -> Bytes
     ensures { result ≡ group_in_force mr0 toggle }
 {
     if toggle {
-        return Bytes::stated(TOGGLED);
+        Bytes::stated(TOGGLED)
+    } else {
+        parts::group_length(mr0)
     }
-    parts::group_length(mr0)
 }
 
 // The group of the MRAM's memory reads.
@@ -76,12 +78,15 @@ fn wrap_in_force(n: u8, cr3: u8) -> Bytes
     ensures { result ≡ wrap_in_force n cr3 }
 {
     if cr3 / 16 % 2 == 1 {
-        return parts::wrap_length(cr3);
+        parts::wrap_length(cr3)
+    } else {
+        memory_size(n)
     }
-    memory_size(n)
 }
 
-// The group inside which memory reads come round.
+// The group inside which memory reads come round, and below that of writes. Reads and writes have definitions of their own, which
+// theorems speak of, `read_span` and `write_span`, `read_place` and `write_place`: one function with the direction beside the rest
+// would have a contract for each, so it would be no plainer.
 #[tactic(auto, unfolding(crate::specs::Places::read_span))]
 fn read_span(s: Setting) -> Bytes
     requires { s.n ≤ 24 }
@@ -156,9 +161,10 @@ fn shut_memory(n: u8, status: u8, place: usize) -> bool
     let size = memory_size(n).in_bytes();
     let shut = size / SHARES * parts::share(status);
     if status / 32 % 2 == 1 {
-        return place < shut;
+        place < shut
+    } else {
+        size - shut <= place
     }
-    size - shut <= place
 }
 
 // Whether a section of the area is protected.

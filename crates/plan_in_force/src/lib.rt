@@ -88,9 +88,10 @@ pub fn address_clocks(s: Setting, k: Kind) -> Clocks
     ensures { result ≡ address_clocks s k }
 {
     if is_stopped(s, k) {
-        return Clocks::none();
+        Clocks::none()
+    } else {
+        address_length(address_of(k), wires_for(s, k))
     }
-    address_length(address_of(k), wires_for(s, k))
 }
 
 #[tactic(auto, unfolding(paper::specs::InForce::wait_clocks))]
@@ -99,9 +100,10 @@ pub fn wait_clocks(s: Setting, k: Kind, address: u32) -> Clocks
     ensures { result ≡ wait_clocks s k address }
 {
     if is_decided(s, k, address) {
-        return Clocks::none();
+        Clocks::none()
+    } else {
+        wait_of(k, s.wires, s.registers.cr2)
     }
-    wait_of(k, s.wires, s.registers.cr2)
 }
 
 #[tactic(auto, unfolding(paper::specs::InForce::body_for))]
@@ -110,9 +112,10 @@ pub fn body_for(s: Setting, k: Kind, address: u32) -> Body
     ensures { result ≡ body_for s k address }
 {
     if is_decided(s, k, address) {
-        return Body::Nothing;
+        Body::Nothing
+    } else {
+        body_of(s.part, k, address)
     }
-    body_of(s.part, k, address)
 }
 
 // The data clocks among all that there are.

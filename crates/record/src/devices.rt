@@ -22,7 +22,8 @@ pub struct Registers {
 
 // What does not outlive a power cycle: the bus mode (1, 2 or 4), the write latch, the arming of a reset, sleep,
 // and the PSRAM's toggle. A reset puts mode, latch and toggle back; the arming falls with the transaction that carried it. The
-// mode is a number, since any may stand in a record that a caller lends, and the state check answers 3 to one that is no mode.
+// mode is a number, since any may stand in a record that a caller lends, and the state check, `underway::valid`, answers 3 to one
+// that is no mode.
 #[derive(Clone, Copy, PartialEq, Eq)]
 pub struct Volatile {
     pub mode: u8,
@@ -42,7 +43,7 @@ pub struct Identities {
 }
 
 // What a chip is made of: its part, by number, and n, its memory having 2^n bytes (D57). Any numbers may stand here; the size
-// check answers 1 to one that stands for no part and to an n that the part is not offered in.
+// check, `device_checks::is_sized`, answers 1 to one that stands for no part and to an n that the part is not offered in.
 #[derive(Clone, Copy, PartialEq, Eq)]
 pub struct Make {
     pub part: u8,
@@ -73,8 +74,9 @@ pub struct Device {
 }
 
 // What neither latch nor arming has a part in: all that the rules of clocks, addresses and places ask of
-// a record, with the part and the wires of the bus mode as types (D21). It has no invariant that bounds n: `Device::setting` gives
-// `setting_of self` for every record and cannot fail, so the contracts that need a bound ask for it, `s.n ≤ 24`.
+// a record, with the part and the wires of the bus mode as types (D21). It has no invariant that bounds n: any record may come to
+// `Device::setting`, which gives `setting_of self` and cannot fail. So the contracts that need a bound ask for it: `s.n ≤ 24`, and
+// `d.make.n ≤ 24` where the record itself is at hand.
 #[derive(Clone, Copy, PartialEq, Eq)]
 pub struct Setting {
     pub part: Part,

@@ -56,7 +56,8 @@ fn status_shown(v: u8, latch: bool) -> u8
     ensures { result ≡ status_shown v latch }
 {
     if latch {
-        return without_latch(v) + 2;
+        without_latch(v) + 2
+    } else {
+        without_latch(v)
     }
-    without_latch(v)
 }

@@ -63,15 +63,7 @@ pub fn reserved(part: Part, r: Register, value: [u8; 8]) -> bool
             !configurations_allowed(part, value[0], value[1], value[2], value[3])
         }
         Register::ModeRegister => !mode_register_allowed(value[0]),
-        Register::AreaProtection
-        | Register::Configuration1
-        | Register::Configuration2
-        | Register::Configuration3
-        | Register::Configuration4
-        | Register::Identity
-        | Register::Unique
-        | Register::Serial
-        | Register::LongIdentity => false,
+        _ => false,
     }
 }
 

@@ -1,5 +1,8 @@
 // What the facts of an open transaction tell, and whether some clocks reach them: a handful of comparisons, however many
 // clocks have come.
+//
+// Setting and open transaction are two parameters, as the definitions of `Rattle.paper.specs.Underway` take them: the setting is
+// worked out from the record once, in `valid` and by `machine_chunks`, and a struct of the two would be taken apart in each function.
 #![tactic(auto)]
 
 ghost use Rattle.std.specs.Prelude.{◌≡◌, ◌≤◌};
@@ -24,9 +27,10 @@ pub fn kind_at(s: Setting, u: Underway) -> Kind
     ensures { result ≡ kind_at s u }
 {
     if command_clocks(s) <= u.clocks {
-        return kind_of(s.part.family(), s.wires, u.opcode);
+        kind_of(s.part.family(), s.wires, u.opcode)
+    } else {
+        Kind::Unknown
     }
-    Kind::Unknown
 }
 
 // The clocks so far, by phase.
@@ -57,30 +61,24 @@ pub fn counts_at(s: Setting, u: Underway) -> Counts
 fn spelling_of(all: Clocks, c: Clocks) -> Clocks
     ensures { result ≡ spelling all c }
 {
-    if all <= c {
-        return c;
-    }
-    Clocks::none()
+    if all <= c { c } else { Clocks::none() }
 }
 
 // Of the data clocks those that have begun a byte of a write.
 fn begun_in(b: Body, c: Clocks) -> Clocks
     ensures { result ≡ begun_in b c }
 {
-    if is_write(b) {
-        return c;
-    }
-    Clocks::none()
+    if is_write(b) { c } else { Clocks::none() }
 }
 
 // The whole bytes that are kept until the end.
 fn kept_in(b: Body, m: Bytes) -> Bytes
     ensures { result ≡ kept_in b m }
 {
-    if matches!(b, Body::FixedWrite(_)) {
-        return m;
+    match b {
+        Body::FixedWrite(_) => m,
+        _ => Bytes::none(),
     }
-    Bytes::none()
 }
 
 // Whether the number fits the clocks that have come of what is not whole yet.
@@ -140,9 +138,10 @@ fn is_underway_valid(s: Setting, u: Underway) -> bool
     ensures { result ≡ underway_valid s u }
 {
     if u.selected {
-        return is_reached(s, u);
+        is_reached(s, u)
+    } else {
+        is_factless(u)
     }
-    is_factless(u)
 }
 
 // The state check. Whoever asks has checked the size.

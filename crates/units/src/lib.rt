@@ -169,13 +169,15 @@ impl Bytes {
 }
 
 // How many wires they are.
-pub fn wire_count(w: Wires) -> usize
-    ensures { result ≡ wires_of w }
-{
-    match w {
-        Wires::One => 1,
-        Wires::Two => 2,
-        Wires::Four => 4,
+impl From<Wires> for usize {
+    ghost from_gives = { λ w n. n ≡ wires_of w };
+
+    fn from(w: Wires) -> usize {
+        match w {
+            Wires::One => 1,
+            Wires::Two => 2,
+            Wires::Four => 4,
+        }
     }
 }
 
@@ -206,9 +208,10 @@ pub fn clocks_within(b: Bytes, w: Wires, all: Clocks) -> Clocks
 {
     let rate = per_byte(w);
     if all.0 / rate < b.0 {
-        return all;
+        all
+    } else {
+        Clocks(b.0 * rate)
     }
-    Clocks(b.0 * rate)
 }
 
 // The whole bytes that `c` clocks carry.
@@ -245,5 +248,5 @@ pub fn bits_in(c: Clocks, w: Wires) -> usize
     requires { c.0 ≤ 65535 }
     ensures { result ≡ bits_in w c }
 {
-    wire_count(w) * c.0
+    usize::from(w) * c.0
 }

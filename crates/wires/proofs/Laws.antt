@@ -57,6 +57,10 @@ module _ (w : Wires) (c : Clocks) (v : ℕ) where
       by true h = let z = div-eq_of_lt (fits_lt h) in untrue (sym e ∙ eq-eqb _ 0 z)
       by false h = h
 
+-- past its last bit a number has none
+pub none_past : (w : Wires) (c : Clocks) (v : ℕ) → v < 2 ^ 32 → 32 ≤ bits_in w c → 0 ≡ v / 2 ^ bits_in w c
+none_past w c v h l = sym (div-eq_of_lt (lt_of_lt_of_le h (pow_mono {i = 32} {j = bits_in w c} l)))
+
 -- no clock brings no bit but those of 0
 pub fits_none : (w : Wires) (v : ℕ) → fits_in w (clocks 0) v ≡ true → v ≡ 0
 fits_none w v e = let h = rw mul-zero at (fits_lt w (clocks 0) v e) in omega arith

@@ -1,8 +1,8 @@
 // What one clock carries, in and out, on one, two or four wires.
 #![tactic(auto)]
 
-ghost use Rattle.std.specs.Prelude.{◌≡◌, ◌+◌, ◌*◌, ◌^◌};
-ghost use Rattle.units.specs.Units.{wires_of};
+ghost use Rattle.std.specs.Prelude.{◌≡◌, ◌+◌, ◌*◌, ◌/◌, ◌^◌};
+ghost use Rattle.units.specs.Units.{wires_of, bits_in};
 ghost use Rattle.wires.specs.Bits.{bits_of, shift_of, fits_in, group_of};
 ghost use Rattle.wires.specs.Levels.{level_of, seen_of, driven_of};
 
@@ -30,8 +30,8 @@ pub fn values(w: Wires) -> u8
 fn with_bits(number: u32, x: u8, w: Wires) -> u64
     ensures { result ≡ number * 2 ^ wires_of w + bits_of w x }
 {
-    let n = number as u64;
-    let b = x as u64;
+    let n = u64::from(number);
+    let b = u64::from(x);
     match w {
         Wires::One => (n << 1) + b % 2,
         Wires::Two => (n << 2) + b % 4,
@@ -47,15 +47,22 @@ pub fn shift_in(number: u32, x: u8, w: Wires) -> u32
     (with_bits(number, x, w) % REGISTER) as u32
 }
 
+// The bits of a number above those that so many clocks bring. Past its last there are none.
+pub fn shifted(v: u32, c: Clocks, w: Wires) -> u32
+    ensures { result ≡ v / 2 ^ bits_in w c }
+{
+    if Clocks::stated(NUMBER) <= c {
+        return 0;
+    }
+    let bits = units::bits_in(c, w);
+    if NUMBER <= bits { 0 } else { v >> bits }
+}
+
 // Whether a number has no more bits than so many clocks bring.
 pub fn fits(v: u32, c: Clocks, w: Wires) -> bool
     ensures { result ≡ fits_in w c v }
 {
-    if Clocks::stated(NUMBER) <= c {
-        return true;
-    }
-    let bits = units::bits_in(c, w);
-    NUMBER <= bits || v >> bits == 0
+    shifted(v, c, w) == 0
 }
 
 // The bits of the byte `b` that travel in clock `k` of it, counted from 0.

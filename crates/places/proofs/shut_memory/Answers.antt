@@ -14,6 +14,6 @@ pub overflow_sub-result : goal.overflow_sub-result
 unfolding shut_memory
 overflow_sub-result c = rw (c.in_bytes-size.ensures, c.memory_size.ensures, c.share.ensures) (shut_le c.args.n c.args.status)
 
-pub returns : goal.returns
+pub returns-else-status-eq1 : goal.returns-else-status-eq1
 unfolding shut_memory
-returns c = rw (c.in_bytes-size.ensures, c.memory_size.ensures, c.share.ensures, ne_eqb (c.args.status / 32 % 2) 1 c.if-status-eq1.false)
+returns-else-status-eq1 c = rw (c.in_bytes-size.ensures, c.memory_size.ensures, c.share.ensures, ne_eqb (c.args.status / 32 % 2) 1 c.if-status-eq1.false)
