@@ -80,19 +80,15 @@ fn page_row(page: &mut Page, f: Field, name: &str, word: Option<&str>) -> fmt::R
     if let Some(word) = word {
         write!(page, " `TONDRAVIK_AT_{word}`")?;
     }
-    writeln!(page, " |")?;
-    flush(page);
-    Ok(())
+    writeln!(page, " |")
 }
 
 // A line of the header.
 fn header_row(page: &mut Page, f: Field, word: &str) -> fmt::Result {
-    writeln!(page, "    TONDRAVIK_AT_{word} = {},", offset_of(f))?;
-    flush(page);
-    Ok(())
+    writeln!(page, "    TONDRAVIK_AT_{word} = {},", offset_of(f))
 }
 
-// The table, and the lines for the header; the number of all bytes is the last.
+// The table, and the lines for the header; the number of all bytes is the last. The page has room for all of it.
 fn put_tables(page: &mut Page) -> fmt::Result {
     write!(
         page,
@@ -106,13 +102,12 @@ fn put_tables(page: &mut Page) -> fmt::Result {
             header_row(page, f, word)?;
         }
     }
-    writeln!(page, "    TONDRAVIK_IMAGE = {IMAGE}")?;
-    flush(page);
-    Ok(())
+    writeln!(page, "    TONDRAVIK_IMAGE = {IMAGE}")
 }
 
 fn main() {
-    let mut buffer = [0; 256];
+    let mut buffer = [0; 4096];
     let mut page = Page::begun(&mut buffer, 0);
     let _ = put_tables(&mut page);
+    flush(&mut page);
 }

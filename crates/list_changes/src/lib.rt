@@ -1,30 +1,34 @@
 // What a record changed: registers, volatile state, memory and area, each with what was there before.
 #![tactic(auto)]
 
-use list_rows::put_cells;
+use list_rows::Cells;
 use record::{Device, Registers, Volatile, mode_wires};
 use std::fmt;
-use std::fmt::Write;
+use std::fmt::{Display, Write};
 use text::Page;
 
 // The most changed bytes that have a line each.
 const LINES: u64 = 8;
 
-// The most records or bytes that are counted.
+// The most changed bytes that are counted, more than a chip on a tape has.
 const COUNTED: u64 = 1000000;
 
-// The front of a line on a change. A name has twenty columns.
-fn put_front(page: &mut Page, name: &str) -> fmt::Result {
-    write!(page, "  changed   {name:20}")
+// A line on what changed, where it did. A name has twenty columns.
+fn put_change<T: Copy + PartialEq + Display>(
+    page: &mut Page,
+    name: &str,
+    old: T,
+    new: T,
+) -> fmt::Result {
+    if old == new {
+        return Ok(());
+    }
+    writeln!(page, "  changed   {name:20}{old} -> {new}")
 }
 
 // A register.
 fn put_register(page: &mut Page, name: &str, old: u8, new: u8) -> fmt::Result {
-    if old == new {
-        return Ok(());
-    }
-    put_front(page, name)?;
-    writeln!(page, "{old:02X} -> {new:02X}")
+    put_change(page, name, Cells(&[old]), Cells(&[new]))
 }
 
 fn put_registers(page: &mut Page, old: Registers, new: Registers) -> fmt::Result {
@@ -37,14 +41,6 @@ fn put_registers(page: &mut Page, old: Registers, new: Registers) -> fmt::Result
     put_register(page, "mode register MR0", old.mr0, new.mr0)
 }
 
-fn put_mode(page: &mut Page, old: u8, new: u8) -> fmt::Result {
-    if old == new {
-        return Ok(());
-    }
-    put_front(page, "bus mode")?;
-    writeln!(page, "{} -> {}", mode_wires(old), mode_wires(new))
-}
-
 // A flag that went up or down, with what each is called.
 fn put_flag(
     page: &mut Page,
@@ -54,49 +50,37 @@ fn put_flag(
     old: bool,
     new: bool,
 ) -> fmt::Result {
-    if old == new {
-        return Ok(());
-    }
-    put_front(page, name)?;
-    if new {
-        writeln!(page, "{down} -> {up}")
-    } else {
-        writeln!(page, "{up} -> {down}")
-    }
+    let word = |flag: bool| if flag { up } else { down };
+    put_change(page, name, word(old), word(new))
 }
 
 fn put_volatile(page: &mut Page, old: Volatile, new: Volatile) -> fmt::Result {
-    put_mode(page, old.mode, new.mode)?;
+    put_change(page, "bus mode", mode_wires(old.mode), mode_wires(new.mode))?;
     put_flag(page, "write latch", "down", "up", old.latch, new.latch)?;
     put_flag(page, "arming", "disarmed", "armed", old.armed, new.armed)?;
     put_flag(page, "sleep", "awake", "asleep", old.asleep, new.asleep)?;
     put_flag(page, "toggle", "off", "on", old.toggle, new.toggle)
 }
 
-fn put_serial(page: &mut Page, old: [u8; 8], new: [u8; 8]) -> fmt::Result {
-    if old == new {
-        return Ok(());
-    }
-    put_front(page, "serial number")?;
-    put_cells(page, &old)?;
-    page.write_str(" -> ")?;
-    put_cells(page, &new)?;
-    writeln!(page)
-}
-
 // All of the record that changed.
 pub fn put_device(page: &mut Page, old: Device, new: Device) -> fmt::Result {
     put_registers(page, old.registers, new.registers)?;
     put_volatile(page, old.volatile, new.volatile)?;
-    put_serial(page, old.identity.serial, new.identity.serial)
+    put_change(
+        page,
+        "serial number",
+        Cells(&old.identity.serial),
+        Cells(&new.identity.serial),
+    )
 }
 
-// The next number, as far as a tape can count.
+// The next number, up to the most that are counted.
 pub fn following(count: u64) -> u64 {
     if count < COUNTED { count + 1 } else { count }
 }
 
-// The bytes that changed. A name has seven columns. The first eight have a line each, the others are counted.
+// The bytes that changed. A name has seven columns. The first eight have a line each, the others are counted: their number and the last of
+// them are kept while the lines are put, and a second pass over the bytes for them is no plainer.
 pub fn put_places(page: &mut Page, name: &str, old: &[u8], new: &[u8]) -> fmt::Result {
     let mut count = 0;
     let mut last = 0;

@@ -3,7 +3,7 @@
 
 use counts::Counts;
 use kinds::{Kind, is_unknown};
-use list_rows::{put_bytes, put_clocks, put_row};
+use list_rows::{Count, put_row};
 use list_views::{View, gather, phases_of};
 use record::{Answer, is_done};
 use std::fmt;
@@ -24,8 +24,7 @@ fn put_bus(page: &mut Page, v: View) -> fmt::Result {
 
 // A row with one count, not yet ended.
 fn put_count(page: &mut Page, label: &str, c: Clocks) -> fmt::Result {
-    write!(page, "  {label:10}")?;
-    put_clocks(page, c, 4)
+    write!(page, "  {label:10}{:4}", Count::of_clocks(c))
 }
 
 // A command by name, or an opcode that the part has not.
@@ -60,9 +59,7 @@ fn put_address(page: &mut Page, v: View, c: Clocks) -> fmt::Result {
 // The data clocks, and the whole bytes that they carry.
 fn put_data_count(page: &mut Page, w: Wires, c: Clocks) -> fmt::Result {
     put_count(page, "data", c)?;
-    page.write_str(", ")?;
-    put_bytes(page, clocks_to_bytes(c, w))?;
-    writeln!(page)
+    writeln!(page, ", {}", Count::of_bytes(clocks_to_bytes(c, w)))
 }
 
 fn put_plain_count(page: &mut Page, label: &str, c: Clocks) -> fmt::Result {
@@ -107,12 +104,12 @@ pub fn put_data(
 ) -> fmt::Result {
     let w = v.later;
     if matches!(v.kind, Kind::Write(_)) {
-        return put_carried(page, "  written   ", phases_of(c, samples).body, w, |x| x);
+        put_carried(page, "  written   ", phases_of(c, samples).body, w, |x| x)
+    } else if is_done(a) {
+        let driven = phases_of(c, output).body;
+        put_row(page, "  driven    ", driven)?;
+        put_carried(page, "  read      ", driven, w, |x| wires::seen(x, w))
+    } else {
+        Ok(())
     }
-    if !is_done(a) {
-        return Ok(());
-    }
-    let driven = phases_of(c, output).body;
-    put_row(page, "  driven    ", driven)?;
-    put_carried(page, "  read      ", driven, w, |x| wires::seen(x, w))
 }

@@ -1,7 +1,7 @@
 // The end of the list.
 #![tactic(auto)]
 
-use list_rows::put_bytes;
+use list_rows::Count;
 use std::fmt;
 use std::fmt::Write;
 use tape::{Entry, Fault};
@@ -10,9 +10,12 @@ use text::Page;
 use units::Bytes;
 
 fn put_cut(page: &mut Page, tape: &[u8], offset: usize) -> fmt::Result {
-    page.write_str("the record is cut short, the tape ends after ")?;
-    put_bytes(page, Bytes::stated(tape.len().saturating_sub(offset)))?;
-    page.write_str(" of it.\n")
+    let rest = Bytes::stated(tape.len().saturating_sub(offset));
+    writeln!(
+        page,
+        "the record is cut short, the tape ends after {} of it.",
+        Count::of_bytes(rest)
+    )
 }
 
 // What is wrong with a bad record.
@@ -44,8 +47,7 @@ fn put_bad(page: &mut Page, offset: usize) -> fmt::Result {
 }
 
 fn put_end(page: &mut Page, k: u64) -> fmt::Result {
-    let ending = if k == 1 { "" } else { "s" };
-    writeln!(page, "\nend {k} record{ending}")
+    writeln!(page, "\nend {}", Count::of_records(k))
 }
 
 // The last lines, after `k` records: the end of the tape, or why the record at an offset is not played.

@@ -4,7 +4,7 @@
 use list_answers::{put_answer, put_rule};
 use list_changes::{put_device, put_places};
 use list_clocks::{put_counts, put_data};
-use list_rows::{put_bytes, put_clocks};
+use list_rows::Count;
 use list_views::{View, view_of};
 use parts::Part;
 use record::{Answer, Device, Make, Outcome};
@@ -22,6 +22,17 @@ pub struct State<'a> {
     pub area: &'a [u8],
 }
 
+// What a record that was played came to: the chip before it and after it, what that answered, and of a transaction its samples
+// and its output.
+#[derive(Clone, Copy)]
+pub struct Played<'a> {
+    pub old: State<'a>,
+    pub new: State<'a>,
+    pub outcome: Outcome,
+    pub samples: &'a [u8],
+    pub output: &'a [u8],
+}
+
 // The front of a record's line: its number and offset.
 pub fn put_head(page: &mut Page, k: u64, offset: usize) -> fmt::Result {
     write!(page, "\nrecord {k}, offset {offset}: ")
@@ -32,11 +43,8 @@ fn put_chip(page: &mut Page, make: Make) -> fmt::Result {
 }
 
 fn put_sizes(page: &mut Page, memory: Bytes, area: Bytes) -> fmt::Result {
-    page.write_str("  memory    ")?;
-    put_bytes(page, memory)?;
-    page.write_str("\n  area      ")?;
-    put_bytes(page, area)?;
-    writeln!(page)
+    writeln!(page, "  memory    {}", Count::of_bytes(memory))?;
+    writeln!(page, "  area      {}", Count::of_bytes(area))
 }
 
 // A fresh chip, and the bytes that it has.
@@ -48,57 +56,43 @@ fn put_fresh(page: &mut Page, make: Make, new: State) -> fmt::Result {
 }
 
 // What a record changed in the chip and in the bytes that it has.
-fn put_changes(page: &mut Page, old: State, new: State) -> fmt::Result {
+fn put_changes(page: &mut Page, p: Played) -> fmt::Result {
+    let Played { old, new, .. } = p;
     put_device(page, old.device, new.device)?;
     put_places(page, "memory", old.memory, new.memory)?;
     put_places(page, "area", old.area, new.area)
 }
 
-fn put_power(page: &mut Page, old: State, new: State, answer: Answer) -> fmt::Result {
+fn put_power(page: &mut Page, p: Played) -> fmt::Result {
     page.write_str("power cycle\n")?;
-    put_changes(page, old, new)?;
-    put_answer(page, answer)?;
+    put_changes(page, p)?;
+    put_answer(page, p.outcome.answer)?;
     page.write_str("the power was off and is on again.\n")
 }
 
 // The line of a transaction, and the rows on its clocks.
-fn put_clocked(page: &mut Page, v: View, o: Outcome, samples: &[u8], output: &[u8]) -> fmt::Result {
-    page.write_str("transaction, ")?;
-    put_clocks(page, Clocks::of_samples(samples), 0)?;
-    writeln!(page)?;
+fn put_clocked(page: &mut Page, v: View, p: Played) -> fmt::Result {
+    let o = p.outcome;
+    let clocks = Clocks::of_samples(p.samples);
+    writeln!(page, "transaction, {}", Count::of_clocks(clocks))?;
     put_counts(page, v, o.counts)?;
-    put_data(page, v, o.counts, o.answer, samples, output)
+    put_data(page, v, o.counts, o.answer, p.samples, p.output)
 }
 
-fn put_transaction(
-    page: &mut Page,
-    old: State,
-    new: State,
-    o: Outcome,
-    samples: &[u8],
-    output: &[u8],
-) -> fmt::Result {
-    let v = view_of(old.device, o.counts, samples);
-    put_clocked(page, v, o, samples, output)?;
-    put_changes(page, old, new)?;
+fn put_transaction(page: &mut Page, p: Played) -> fmt::Result {
+    let o = p.outcome;
+    let v = view_of(p.old.device, o.counts, p.samples);
+    put_clocked(page, v, p)?;
+    put_changes(page, p)?;
     put_answer(page, o.answer)?;
-    put_rule(page, v, samples, o.answer)
+    put_rule(page, v, p.samples, o.answer)
 }
 
-// The paragraph of a record that was played, after its line's front: what it was, the chip before it and after it, and what that
-// answered, and of a transaction its samples and its output.
-pub fn put_played(
-    page: &mut Page,
-    e: Entry,
-    old: State,
-    new: State,
-    o: Outcome,
-    samples: &[u8],
-    output: &[u8],
-) -> fmt::Result {
+// The paragraph of a record that was played, after its line's front.
+pub fn put_played(page: &mut Page, e: Entry, p: Played) -> fmt::Result {
     match e {
-        Entry::Transaction => put_transaction(page, old, new, o, samples, output),
-        Entry::PowerCycle => put_power(page, old, new, o.answer),
-        Entry::Fresh(make) => put_fresh(page, make, new),
+        Entry::Transaction => put_transaction(page, p),
+        Entry::PowerCycle => put_power(page, p),
+        Entry::Fresh(make) => put_fresh(page, make, p.new),
     }
 }

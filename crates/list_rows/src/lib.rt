@@ -14,29 +14,57 @@ const LINE: usize = 16;
 // What stands before a further line of a row.
 const FOLD: &str = "\n            ";
 
-// A number in so many columns, with its unit.
-fn put_count(page: &mut Page, v: usize, width: usize, unit: &str) -> fmt::Result {
-    let ending = if v == 1 { "" } else { "s" };
-    write!(page, "{v:width$} {unit}{ending}")
+// A number with its unit, `3 clocks` or `1 clock`. A width is that of the number. It is a type of its own: Clocks and Bytes
+// print themselves nowhere else, and records are counted in the same words.
+#[derive(Clone, Copy)]
+pub struct Count {
+    number: u64,
+    unit: &'static str,
 }
 
-// A number of clocks, set to the right in so many columns.
-pub fn put_clocks(page: &mut Page, c: Clocks, width: usize) -> fmt::Result {
-    put_count(page, c.in_clocks(), width, "clock")
-}
-
-// A number of bytes.
-pub fn put_bytes(page: &mut Page, b: Bytes) -> fmt::Result {
-    put_count(page, b.in_bytes(), 0, "byte")
-}
-
-// Bytes side by side.
-pub fn put_cells(page: &mut Page, bytes: &[u8]) -> fmt::Result {
-    for (i, b) in bytes.iter().enumerate() {
-        let gap = if i == 0 { "" } else { " " };
-        write!(page, "{gap}{b:02X}")?;
+impl Count {
+    pub fn of_clocks(c: Clocks) -> Count {
+        Count {
+            number: c.in_clocks() as u64,
+            unit: "clock",
+        }
     }
-    Ok(())
+
+    pub fn of_bytes(b: Bytes) -> Count {
+        Count {
+            number: b.in_bytes() as u64,
+            unit: "byte",
+        }
+    }
+
+    pub fn of_records(number: u64) -> Count {
+        Count {
+            number,
+            unit: "record",
+        }
+    }
+}
+
+impl fmt::Display for Count {
+    fn fmt<W: fmt::Write>(&self, f: &mut fmt::Formatter<W>) -> fmt::Result {
+        let ending = if self.number == 1 { "" } else { "s" };
+        self.number.fmt(f)?;
+        write!(f, " {}{ending}", self.unit)
+    }
+}
+
+// Bytes side by side, in hexadecimal.
+#[derive(Clone, Copy, PartialEq, Eq)]
+pub struct Cells<'a>(pub &'a [u8]);
+
+impl fmt::Display for Cells<'_> {
+    fn fmt<W: fmt::Write>(&self, f: &mut fmt::Formatter<W>) -> fmt::Result {
+        for (i, b) in self.0.iter().enumerate() {
+            let gap = if i == 0 { "" } else { " " };
+            write!(f, "{gap}{b:02X}")?;
+        }
+        Ok(())
+    }
 }
 
 // A row of bytes behind a label of twelve columns. Of more than 32 it shows the first 32, and says how many it leaves out.
@@ -46,10 +74,8 @@ pub fn put_row(page: &mut Page, label: &str, bytes: &[u8]) -> fmt::Result {
     }
     page.write_str(label)?;
     for (i, line) in bytes.chunks(LINE).take(ROW / LINE).enumerate() {
-        if i != 0 {
-            page.write_str(FOLD)?;
-        }
-        put_cells(page, line)?;
+        let fold = if i == 0 { "" } else { FOLD };
+        write!(page, "{fold}{}", Cells(line))?;
     }
     if ROW < bytes.len() {
         write!(page, "{FOLD}and {} more", bytes.len() - ROW)?;

@@ -2,7 +2,7 @@
 // and why it is answered so.
 #![tactic(auto)]
 
-use list_rows::put_bytes;
+use list_rows::Count;
 use list_turns::{Stores, put_turns};
 use parts::LARGEST_AREA;
 use std::fmt;
@@ -14,9 +14,7 @@ use units::Bytes;
 
 // The tape's own line.
 fn put_tape(page: &mut Page, tape: &[u8]) -> fmt::Result {
-    page.write_str("tape of ")?;
-    put_bytes(page, Bytes::of_store(tape))?;
-    writeln!(page)
+    writeln!(page, "tape of {}", Count::of_bytes(Bytes::of_store(tape)))
 }
 
 fn list(tape: &[u8]) -> fmt::Result {

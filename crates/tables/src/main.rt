@@ -86,17 +86,14 @@ fn command_row(page: &mut Page, p: Part, opcode: u8) -> fmt::Result {
     put_modes(page, f, opcode)?;
     put_plan(page, k)?;
     put_waits(page, f, opcode)?;
-    put_body(page, body_of(p, k, 0))?;
-    flush(page);
-    Ok(())
+    put_body(page, body_of(p, k, 0))
 }
 
 fn put_commands(page: &mut Page, p: Part, parts: &str) -> fmt::Result {
     writeln!(page, "\n### Commands of {parts}\n")?;
-    head(
-        page,
+    page.write_str(
         "| opcode | command | bus modes | all but the command on | address | wait in each mode, clocks | data, bytes |\n|---|---|---|---|---|---|---|\n",
-    );
+    )?;
     for opcode in 0..=255 {
         command_row(page, p, opcode)?;
     }
@@ -106,17 +103,16 @@ fn put_commands(page: &mut Page, p: Part, parts: &str) -> fmt::Result {
 // ---- the parts
 
 fn part_row(page: &mut Page, p: Part) -> fmt::Result {
-    write!(page, "| {} | {p} | ", u8::from(p))?;
-    write!(page, "{} | {} | ", p.least(), p.most())?;
-    write!(
+    writeln!(
         page,
-        "{} | {} | ",
+        "| {} | {p} | {} | {} | {} | {} | {} |",
+        u8::from(p),
+        p.least(),
+        p.most(),
         p.area().in_bytes(),
-        p.section().in_bytes()
-    )?;
-    writeln!(page, "{} |", p.wrap_codes())?;
-    flush(page);
-    Ok(())
+        p.section().in_bytes(),
+        p.wrap_codes()
+    )
 }
 
 // The parts that have a row which part M32 has: part M has it too, or not.
@@ -134,17 +130,13 @@ fn map_row(page: &mut Page, address: u32) -> fmt::Result {
     let k = Kind::Read(Source::Register(r));
     let too = register_at(Part::M, address).is_some();
     write!(page, "| {address:06X} | {} | {k} ", holders(too))?;
-    put_body(page, body_of(Part::M32, k, 0))?;
-    flush(page);
-    Ok(())
+    put_body(page, body_of(Part::M32, k, 0))
 }
 
 // ---- lengths and shares
 
 fn number_row(page: &mut Page, code: u8, n: usize) -> fmt::Result {
-    writeln!(page, "| {code} | {n} |")?;
-    flush(page);
-    Ok(())
+    writeln!(page, "| {code} | {n} |")
 }
 
 // A code of the groups of part M32, which has all that part M has.
@@ -155,53 +147,40 @@ fn wrap_row(page: &mut Page, code: u8) -> fmt::Result {
         "| {code} | {} | {} |",
         holders(too),
         wrap_length(code).in_bytes()
-    )?;
-    flush(page);
-    Ok(())
+    )
 }
 
 // ---- the tables
 
-fn head(page: &mut Page, text: &str) {
-    page.put_all(text.as_bytes());
-    flush(page);
-}
-
+// All of them. The page has room for all.
 fn put_tables(page: &mut Page) -> fmt::Result {
-    head(
-        page,
+    page.write_str(
         "\n### Parts\n\n| number | part | n from | n to | area, bytes | section, bytes | codes in CR3 |\n|---|---|---|---|---|---|---|\n",
-    );
+    )?;
     for p in [Part::M, Part::P, Part::M32] {
         part_row(page, p)?;
     }
     put_commands(page, Part::M, "parts M and M32")?;
     put_commands(page, Part::P, "part P")?;
-    head(
-        page,
+    page.write_str(
         "\n### Registers by address, for 65\n\n| address | on part | register | data, bytes |\n|---|---|---|---|\n",
-    );
+    )?;
     for address in 0..256 {
         map_row(page, address)?;
     }
-    head(
-        page,
+    page.write_str(
         "\n### Protected memory of parts M and M32, by status bits 4 to 2\n\n| code | 64ths |\n|---|---|\n",
-    );
+    )?;
     for code in 0..8 {
-        number_row(page, code, share(code * 4) as usize)?;
+        number_row(page, code, share(code * 4))?;
     }
-    head(
-        page,
+    page.write_str(
         "\n### Groups of reads of parts M and M32, by CR3[2:0]\n\n| code | on part | bytes |\n|---|---|---|\n",
-    );
+    )?;
     for code in 0..Part::M32.wrap_codes() {
         wrap_row(page, code)?;
     }
-    head(
-        page,
-        "\n### Groups of part P, by MR0[6:5]\n\n| code | bytes |\n|---|---|\n",
-    );
+    page.write_str("\n### Groups of part P, by MR0[6:5]\n\n| code | bytes |\n|---|---|\n")?;
     for code in 0..4 {
         number_row(page, code, group_length(code * 32).in_bytes())?;
     }
@@ -209,7 +188,8 @@ fn put_tables(page: &mut Page) -> fmt::Result {
 }
 
 fn main() {
-    let mut buffer = [0; 512];
+    let mut buffer = [0; 8192];
     let mut page = Page::begun(&mut buffer, 0);
     let _ = put_tables(&mut page);
+    flush(&mut page);
 }
