@@ -95,12 +95,12 @@ module _ (q : Order) (written : List ℕ) (d : Device) (l : Lent) (sp : Spelled 
       subst (λ (ys : List ℕ). Understood o d l ys c.out) same_samples
       (understood o c.room asked sp d m l c.out (subst (λ (ys : List ℕ). Lendable d l ys c.out) (sym same_samples) r)) in
       let h : reads (body_meant o) ≡ true → (bytes_driven (body_meant o) o.wanted).0 ≤ length c.store
-          → gathered_as c.gathered c.bytes ≡ record { answer = Done; number = bytes_driven (body_meant o) o.wanted; buffer = over (bytes_read o d l) c.store } =
+      → gathered_as c.gathered c.bytes ≡ record { answer = Done; number = bytes_driven (body_meant o) o.wanted; buffer = over (bytes_read o d l) c.store } =
       λ e f.
-          c.gathers
-          ∙ ap (λ (w : World). collect_of (wires_of (wires_in o)) (first c.clocks w.output) c.store) c.transacts
-          ∙ ap (λ (n : Clocks). collect_of (wires_of (wires_in o)) (first n (transact_of d l xs c.out).output) c.store) (sym same_clocks)
-          ∙ u.heard e c.store f in
+      c.gathers
+      ∙ ap (λ (w : World). collect_of (wires_of (wires_in o)) (first c.clocks w.output) c.store) c.transacts
+      ∙ ap (λ (n : Clocks). collect_of (wires_of (wires_in o)) (first n (transact_of d l xs c.out).output) c.store) (sym same_clocks)
+      ∙ u.heard e c.store f in
       record {
         understood = u;
         answer = ap (λ (w : World). faultless w.answer) c.transacts ∙ u.answer;

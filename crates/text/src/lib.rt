@@ -6,10 +6,9 @@ ghost use Rattle.buffers.specs.Page.{puts_of};
 ghost use Rattle.buffers.specs.Shown.{shown};
 ghost use Rattle.text.specs.Decimal.{decimal_of};
 
+pub use buffers::Page;
 use std::fmt;
 use std::fmt::Write;
-
-pub use buffers::Page;
 
 // A number in decimal.
 pub fn put_decimal(page: &mut Page, v: u64)
