@@ -87,9 +87,3 @@ image_put d out n e f = ap (λ (z : Page). z.buffer) (onto (page 0 out) (front_b
 -- so many bytes, each of which is named, are the bytes
 pub eight_put : (p : Page) {q : Page} (l : List ℕ) → length l ≡ 8 → q ≡ puts_of l p → q ≡ puts_of (eight_of l) p
 eight_put p l n e = rw (eight_whole l n) e
-
--- ---- bytes that are all 0
-pub zeros_is : (xs : List ℕ) → list_all (λ x. eqb x 0) xs ≡ zeros xs
-unfolding zeros
-zeros_is [] = refl
-zeros_is (x ∷ xs) = rw (zeros_is xs)

@@ -9,5 +9,5 @@ pub mod writes;
 
 pub use fields::{Field, IMAGE, Place, offset_of, place_of, size_of};
 pub use reads::{eight_at, record_of};
-pub use shapes::is_shaped;
+pub use shapes::shaped;
 pub use writes::put_record;

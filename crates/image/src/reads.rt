@@ -1,9 +1,9 @@
-// From an image to the record that it stands for. Whoever asks has looked at the length.
+// From an image to the record that it stands for: its length is in the type.
 ghost use Rattle.std.specs.Prelude.{◌≡◌, ◌+◌, ◌≤◌, length, take, drop};
-ghost use Rattle.image.specs.Layout.{image_size};
 ghost use Rattle.image.specs.Image.{four_from, eight_from, registers_at, volatile_at, identities_at, underway_at, record_of};
 
 use crate::fields;
+use crate::fields::IMAGE;
 use record::{Device, Identities, Make, Registers, Underway, Volatile};
 use units::Clocks;
 
@@ -33,8 +33,7 @@ pub fn eight_at(image: &[u8], at: usize) -> [u8; 8]
     bytes_at(image, at)
 }
 
-fn registers_at(image: &[u8]) -> Registers
-    requires { length image.now ≡ image_size }
+fn registers_at(image: &[u8; IMAGE]) -> Registers
     ensures { result ≡ registers_at image.now }
 {
     Registers {
@@ -48,8 +47,7 @@ fn registers_at(image: &[u8]) -> Registers
     }
 }
 
-fn volatile_at(image: &[u8]) -> Volatile
-    requires { length image.now ≡ image_size }
+fn volatile_at(image: &[u8; IMAGE]) -> Volatile
     ensures { result ≡ volatile_at image.now }
 {
     Volatile {
@@ -61,8 +59,7 @@ fn volatile_at(image: &[u8]) -> Volatile
     }
 }
 
-fn identities_at(image: &[u8]) -> Identities
-    requires { length image.now ≡ image_size }
+fn identities_at(image: &[u8; IMAGE]) -> Identities
     ensures { result ≡ identities_at image.now }
 {
     Identities {
@@ -72,8 +69,7 @@ fn identities_at(image: &[u8]) -> Identities
     }
 }
 
-fn underway_at(image: &[u8]) -> Underway
-    requires { length image.now ≡ image_size }
+fn underway_at(image: &[u8; IMAGE]) -> Underway
     ensures { result ≡ underway_at image.now }
 {
     Underway {
@@ -88,8 +84,7 @@ fn underway_at(image: &[u8]) -> Underway
 
 // The record, whatever it is worth.
 #[tactic(auto, unfolding(crate::specs::Image::record_of))]
-pub fn record_of(image: &[u8]) -> Device
-    requires { length image.now ≡ image_size }
+pub fn record_of(image: &[u8; IMAGE]) -> Device
     ensures { result ≡ record_of image.now }
 {
     Device {

@@ -1,10 +1,10 @@
 // Whether bytes have the shape of an image: the length, flags that are flags, and spare bytes that are 0.
-ghost use Rattle.std.specs.Prelude.{◌≡◌, length};
+ghost use Rattle.std.specs.Prelude.{◌≡◌, true, false, MatchOption};
 ghost use Rattle.state_check.specs.States.{zeros};
-ghost use Rattle.image.specs.Layout.{image_size};
 ghost use Rattle.image.specs.Image.{flagged, spared, shaped};
 
 use crate::fields;
+use crate::fields::IMAGE;
 
 // Whether all bytes are 0.
 fn is_clear(bytes: &[u8]) -> bool
@@ -14,8 +14,7 @@ fn is_clear(bytes: &[u8]) -> bool
 }
 
 #[tactic(auto, unfolding(crate::specs::Image::flagged))]
-fn has_flags(image: &[u8]) -> bool
-    requires { length image.now ≡ image_size }
+fn has_flags(image: &[u8; IMAGE]) -> bool
     ensures { result ≡ flagged image.now }
 {
     image[fields::LATCH] <= 1
@@ -26,8 +25,7 @@ fn has_flags(image: &[u8]) -> bool
 }
 
 #[tactic(auto, unfolding(crate::specs::Image::spared))]
-fn has_spares(image: &[u8]) -> bool
-    requires { length image.now ≡ image_size }
+fn has_spares(image: &[u8; IMAGE]) -> bool
     ensures { result ≡ spared image.now }
 {
     is_clear(&image[fields::BESIDE_MAKE..fields::STATUS])
@@ -36,9 +34,16 @@ fn has_spares(image: &[u8]) -> bool
         && is_clear(&image[fields::BESIDE_VALUE..fields::IMAGE])
 }
 
-#[tactic(auto, unfolding(crate::specs::Image::shaped))]
-pub fn is_shaped(image: &[u8]) -> bool
-    ensures { result ≡ shaped image.now }
+// The bytes as an image, where they have the shape of one.
+pub fn shaped(image: &[u8]) -> Option<&[u8; IMAGE]>
+    ensures { MatchOption result (shaped image.now ≡ false) (λ a. (shaped image.now ≡ true) × (a.now ≡ image.now)) }
 {
-    image.len() == fields::IMAGE && has_flags(image) && has_spares(image)
+    let Ok(whole) = <&[u8; IMAGE]>::try_from(image) else {
+        return None;
+    };
+    if has_flags(whole) && has_spares(whole) {
+        Some(whole)
+    } else {
+        None
+    }
 }

@@ -4,7 +4,7 @@
 ghost use Rattle.std.specs.Prelude.{◌≡◌};
 ghost use Rattle.image_check.specs.Accepted.{valid_record, accepted};
 
-use image::{is_shaped, record_of};
+use image::{IMAGE, is_shaped, record_of};
 use parts::{Part, is_offered};
 use record::Device;
 
@@ -21,5 +21,8 @@ pub fn is_valid(d: Device) -> bool
 pub fn is_accepted(image: &[u8]) -> bool
     ensures { result ≡ accepted image.now }
 {
-    is_shaped(image) && is_valid(record_of(image))
+    let Ok(shaped) = <&[u8; IMAGE]>::try_from(image) else {
+        return false;
+    };
+    is_shaped(image) && is_valid(record_of(shaped))
 }

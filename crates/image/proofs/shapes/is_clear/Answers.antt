@@ -4,7 +4,7 @@ use Rattle.std.specs.Prelude.{eqb}
 use Rattle.std.proofs.Common.{◌∙◌, rules}
 use Rattle.std.proofs.lemmas.Iterator.{YieldsList-from_slice}
 use Rattle.std.proofs.lemmas.Iterator.Search.{all_from_yields_List}
-use Rattle.image.specs.Laws.{zeros_is}
+use Rattle.state_check.specs.StateLaws.{zeros_is}
 use Rattle.image.proofs.shapes.is_clear.Goals as goal
 
 pub returns : goal.returns
