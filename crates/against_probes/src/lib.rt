@@ -5,7 +5,7 @@
 use against_columns::call_columns;
 use against_input::Cut;
 use bench_columns::digest_column;
-use buffers::number_of;
+use buffers::number_at;
 use counts::Counts;
 use image::{IMAGE, put_record, record_of};
 use image_calls::Reply;
@@ -107,13 +107,13 @@ impl TryFrom<u8> for Call {
 
 fn lengths_of(h: [u8; 32]) -> Lengths {
     Lengths {
-        memory: number_of(h[4], h[5], h[6], h[7]) as usize,
-        area: number_of(h[8], h[9], h[10], h[11]) as usize,
-        samples: number_of(h[12], h[13], h[14], h[15]) as usize,
-        output: number_of(h[16], h[17], h[18], h[19]) as usize,
-        image: number_of(h[20], h[21], h[22], h[23]) as usize,
-        device: number_of(h[24], h[25], h[26], h[27]) as usize,
-        unique: number_of(h[28], h[29], h[30], h[31]) as usize,
+        memory: number_at(&h, 4) as usize,
+        area: number_at(&h, 8) as usize,
+        samples: number_at(&h, 12) as usize,
+        output: number_at(&h, 16) as usize,
+        image: number_at(&h, 20) as usize,
+        device: number_at(&h, 24) as usize,
+        unique: number_at(&h, 28) as usize,
     }
 }
 
@@ -197,10 +197,7 @@ fn over_record<'a>(s: Step, t: Lent<'a>) -> Result<(Reply, Lent<'a>), Cut> {
         samples,
         output,
     } = t;
-    if image.len() != IMAGE {
-        return Err(Cut);
-    }
-    let d = record_of(image);
+    let d = record_of(<&[u8; IMAGE]>::try_from(&image[..]).map_err(|_| Cut)?);
     let o = match s {
         Step::Transact => device::transact(d, memory, area, samples, output),
         Step::PowerCycle => device::power_cycle(d, memory, area),

@@ -12,7 +12,8 @@ use std::fmt::Write;
 use text::{Page, put_decimal};
 use units::Clocks;
 
-// A number behind a space.
+// A number behind a space. Numbers are put by calls, not by `write!`: the clauses say which bytes they are (`column_of`, and
+// `five_of` below).
 pub fn column(page: &mut Page, v: u64)
     ensures same_buffer { page.new.bytes.ghost_name ≡ page.old.bytes.ghost_name }
     ensures put { shown page.new ≡ puts_of (column_of v) (shown page.old) }
@@ -53,8 +54,8 @@ pub fn digest_column(page: &mut Page, bytes: &[u8]) -> fmt::Result {
     write!(page, " {:08X}", digest(bytes))
 }
 
-// A buffer of any length. It comes out of a function, so that a proof has its length from its type: where a large array is
-// written out, the prover follows it element by element and gives up.
+// A buffer of any length. It comes out of a function, so that its length is known by its type alone: a large array that is written
+// out is known by each of its elements.
 pub fn room<const N: usize>() -> [u8; N] {
     [0; N]
 }

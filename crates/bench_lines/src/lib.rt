@@ -1,4 +1,5 @@
-// The lines that the bench prints, put on a page: the header, the line of a record, and the last line.
+// The lines that the bench prints, put on a page: the header, the line of a record, and the last line. They are put by calls, not
+// by `write!`: the clauses say which bytes they are (`header_text`, `line_of`, `last_line_of`, `verdict_of`).
 #![tactic(auto)]
 
 ghost use Rattle.std.specs.Prelude.{◌≡◌};

@@ -4,12 +4,10 @@
 use bench_lines::{header, last_line, line, verdict};
 use parts::LARGEST_AREA;
 use tape::LARGEST_MEMORY;
+use tape_session::TURNS;
 use text::Page;
 
-// Every record takes four bytes of the tape or more, so that there are no more turns than these.
-const TURNS: u64 = 16385;
-
-// Every record, to the end or to one that is bad.
+// Every record, to the end or to one that is bad. Memory, area and output are lent apart, as the calls of the device have them.
 fn run(tape: &[u8], memory: &mut [u8], area: &mut [u8], output: &mut [u8], page: &mut Page) {
     let mut session = tape_session::start();
     for before in 0..TURNS {

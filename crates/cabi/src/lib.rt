@@ -21,10 +21,7 @@ use words::{COUNTS, NUMBER, put_counts, put_number};
 fn number_of(r: Result<(), Answer>) -> u8
     ensures { result ≡ answer_number (answer_in r) }
 {
-    match r {
-        Ok(()) => u8::from(Answer::Done),
-        Err(v) => u8::from(v),
-    }
+    u8::from(r.err().unwrap_or(Answer::Done))
 }
 
 // A fresh chip of part M.
@@ -138,7 +135,8 @@ pub extern "C" fn tondravik_close(
     tell(image_calls::close(image, memory, area), counts)
 }
 
-// What the host half tells: how much was put into the buffer, in the lent word, and the answer.
+// What the host half tells: how much was put into the buffer, in the lent word, and the answer. Each call takes its result apart by
+// itself: one counts in clocks, the other in bytes, and a `map` to a plain number before is no plainer.
 fn fill(v: Answer, n: usize, number: &mut [usize]) -> u8
     ensures answer { result ≡ answer_number v }
     ensures number { number.new ≡ number_over n number.old }

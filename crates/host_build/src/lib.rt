@@ -19,7 +19,7 @@ use host_samples::{put_byte, put_number, put_silent, put_wanted, put_written};
 use kinds::{Kind, is_unknown};
 use plan_in_force::address_length;
 use record::{Answer, mode_wires};
-use units::{Bytes, Clocks, Wires, bytes_to_clocks};
+use units::{Bytes, Clocks, Wires, byte_clocks, bytes_to_clocks};
 
 // More bytes than any transaction carries, and few enough that their clocks are counted.
 const MOST_BYTES: usize = 65535;
@@ -47,7 +47,8 @@ fn put_rest(page: &mut Page, o: Order, k: Kind, w: Wires, written: &[u8])
     put_data(page, o, body_asked(o, k), later_wires(k, w), written);
 }
 
-// Command, address, wait and data, from the front of the buffer.
+// Command, address, wait and data, from the front of the buffer. Order, kind and what is written go apart: the definitions of the
+// paper are asked with each (`built_of`, `body_asked`), and `order_as` alone puts order and written bytes together.
 pub fn put_built(o: Order, k: Kind, written: &[u8], samples: &mut [u8]) -> Clocks
     ensures { page result.0 samples.new ≡ puts_of (built_of (order_as o written.now) k) (page 0 samples.old) }
 {
@@ -77,7 +78,7 @@ fn bytes_sent(b: Body, wanted: Bytes, written: Bytes) -> Bytes
 fn front_clocks(k: Kind, w: Wires, cr2: u8) -> Clocks
     ensures { result ≡ front_of k w cr2 }
 {
-    let command = bytes_to_clocks(Bytes::one(), w);
+    let command = byte_clocks(w);
     let address = address_length(address_of(k), later_wires(k, w));
     let wait = wait_of(k, w, cr2);
     command + address + wait

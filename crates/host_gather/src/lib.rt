@@ -14,7 +14,8 @@ use record::{Answer, mode_wires};
 use units::{Bytes, Clocks, Wires, clocks_to_bytes, unfinished};
 use wires::{is_driven, seen, shift_in};
 
-// One, two or four wires.
+// One, two or four wires. Whether a number is one and which wires it means are two answers, as the paper has them (`is_wires`,
+// `mode_wires`): `put_collected` and `mode_wires` are asked of any number.
 fn is_wires(n: u8) -> bool
     ensures { result ≡ is_wires n }
 {
@@ -74,6 +75,7 @@ pub fn put_collected(w: Wires, driven: &[u8], bytes: &mut [u8]) -> Bytes
         number = shift_in(number, seen(*x, w), w);
         had = unfinished(had.next(), w);
         if had == Clocks::none() {
+            // The low eight bits; a conversion that may fail would have a case that never comes.
             page.put((number % 256) as u8);
             number = 0;
         }

@@ -17,8 +17,9 @@ use units::Bytes;
 // The bytes of the longest registers.
 const MOST_OF_REGISTER: usize = 8;
 
-// A command in numbers: any values at all. `wanted` is the number of bytes to read; what is to be written is lent
-// beside it.
+// A command in numbers: any values at all. `kind_asked` answers `Unknown` to a part or a mode that there is not. `wanted` is
+// the number of bytes to read; what is to be written is lent beside it. Order and kind go apart, and the questions are no methods:
+// the kind is found once, and the definitions of the paper are asked with both (`body_asked`, `beyond`, `built_of`).
 #[derive(Clone, Copy)]
 pub struct Order {
     pub part: u8,
@@ -63,7 +64,7 @@ pub fn body_asked(o: Order, k: Kind) -> Body
 fn is_addressed(a: Address) -> bool
     ensures { result ≡ addressed a }
 {
-    !matches!(a, Address::Absent)
+    a != Address::Absent
 }
 
 // 7: an address that 24 bits do not hold, where there is one.

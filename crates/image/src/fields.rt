@@ -2,9 +2,10 @@
 ghost use Rattle.std.specs.Prelude.{◌≡◌};
 ghost use Rattle.image.specs.Layout.{place_as, place_of, offset_of, size_of};
 
-// The places are constants beside an enum of the fields: the record is read and written at the constants, and the enum is
-// what `offset_of` and `size_of` are asked by, from which the C header and the page of the image are printed. No table is
-// plainer: an index of a field would be checked at each place that is read here.
+// The places are constants beside an enum of the fields: the record is read at the constants (it is written from front to
+// back, each field behind the one before it), and the enum is what `offset_of` and `size_of` are asked by, from which the C
+// header and the page of the image are printed. `image[offset_of(Field::Latch)]` is no plainer than `image[fields::LATCH]`: a
+// constant is below the array's length as it stands, the answer of a call is so by its contract alone.
 
 // The bytes of an image.
 pub const IMAGE: usize = 128;

@@ -1,9 +1,10 @@
 // From an image to the record that it stands for: its length is in the type.
 ghost use Rattle.std.specs.Prelude.{◌≡◌, ◌+◌, ◌≤◌, length, take, drop};
-ghost use Rattle.image.specs.Image.{four_from, eight_from, registers_at, volatile_at, identities_at, underway_at, record_of};
+ghost use Rattle.image.specs.Image.{eight_from, registers_at, volatile_at, identities_at, underway_at, record_of};
 
 use crate::fields;
 use crate::fields::IMAGE;
+use buffers::number_at;
 use record::{Device, Identities, Make, Registers, Underway, Volatile};
 use units::Clocks;
 
@@ -15,14 +16,6 @@ fn bytes_at<const N: usize>(image: &[u8], at: usize) -> [u8; N]
     let mut bytes = [0; N];
     bytes.copy_from_slice(&image[at..at + N]);
     bytes
-}
-
-// A number of four bytes, the lowest first.
-fn four_at(image: &[u8], at: usize) -> u32
-    requires { at + 4 ≤ length image.now }
-    ensures { result ≡ four_from at image.now }
-{
-    u32::from_le_bytes(bytes_at(image, at))
 }
 
 // Eight bytes.
@@ -74,10 +67,10 @@ fn underway_at(image: &[u8; IMAGE]) -> Underway
 {
     Underway {
         selected: image[fields::SELECTED] == 1,
-        clocks: Clocks::stated(four_at(image, fields::CLOCKS) as usize),
+        clocks: Clocks::stated(number_at(image, fields::CLOCKS) as usize),
         opcode: image[fields::OPCODE],
-        address: four_at(image, fields::ADDRESS),
-        number: four_at(image, fields::NUMBER),
+        address: number_at(image, fields::ADDRESS),
+        number: number_at(image, fields::NUMBER),
         value: eight_at(image, fields::VALUE),
     }
 }

@@ -50,8 +50,8 @@ fn put_open(page: &mut Page, u: Underway)
 {
     page.put_all(&[u8::from(u.selected), u.opcode, 0, 0]);
     page.put_all(&four_of(u.clocks.in_clocks()));
-    page.put_all(&four_of(u.address as usize));
-    page.put_all(&four_of(u.number as usize));
+    page.put_all(&u.address.to_le_bytes());
+    page.put_all(&u.number.to_le_bytes());
 }
 
 // The image up to the open transaction.

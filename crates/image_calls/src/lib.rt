@@ -1,22 +1,25 @@
 // The calls of the device over an image: each does what it does over the record that the image stands for, and leaves the image
 // of the next record. 3 comes before all other checks: bytes that are no valid record's image are not looked at further, and
 // nothing changes. Nothing is asked of the caller.
+//
+// Each call takes the record that bytes are accepted as and leaves the next one. The call over the record is no parameter of one
+// function for all five: a closure that holds what is lent is not called where the bytes are turned away, and nothing is known
+// then of what it held. Memory and area, samples and output are lent apart, as the calls of the device and the C interface have
+// them.
 #![tactic(auto)]
 
-ghost use Rattle.std.specs.Prelude.{◌≡◌, true, false, [], length, MatchOption, IfErr};
+ghost use Rattle.std.specs.Prelude.{◌≡◌, false, [], length, IfErr};
 ghost use Rattle.parts.specs.declared.Family.TheVariants.{Mram};
 ghost use Rattle.parts.specs.Parts.{family_of};
 ghost use Rattle.contract_words.specs.Words.{lends};
 ghost use Rattle.record.specs.Answers.{is_done};
 ghost use Rattle.image.specs.Layout.{image_size};
-ghost use Rattle.image.specs.Image.{record_of};
-ghost use Rattle.image_check.specs.Accepted.{accepted};
 ghost use Rattle.image_calls.specs.Calls.{strange_reply, left_reply, leaves_as, imaged_as, transact_in, power_in, open_in, feed_in, close_in};
 ghost use Rattle.image_calls.specs.Fresh.{made_in, fresh_mram_in, fresh_m_in, fresh_m32_in, fresh_p_in};
 
 use counts::Counts;
-use image::{IMAGE, eight_at, put_record, record_of};
-use image_check::is_accepted;
+use image::{IMAGE, put_record};
+use image_check::accepted;
 use parts::{Part, PartP, is_offered};
 use record::{Answer, Device, Make, Outcome};
 
@@ -25,19 +28,6 @@ use record::{Answer, Device, Make, Outcome};
 pub struct Reply {
     pub answer: Answer,
     pub counts: Counts,
-}
-
-// The record of an image, where bytes are one. Each call below takes it and leaves the next one: a call is no parameter
-// here, since a closure that holds what is lent is not called where the bytes are turned away, and nothing is known then
-// of what it held.
-fn record_in(image: &[u8]) -> Option<Device>
-    ensures { MatchOption result (accepted image.now ≡ false) (λ d. (accepted image.now ≡ true) × (d ≡ record_of image.now)) }
-{
-    if is_accepted(image) {
-        Some(record_of(image))
-    } else {
-        None
-    }
 }
 
 // To bytes that are no image.
@@ -72,7 +62,7 @@ pub fn transact(
 ) -> Reply
     ensures { imaged_as result image.new memory.new area.new output.new ≡ transact_in image.old (lends memory.old area.old) samples.now output.old }
 {
-    let Some(d) = record_in(image) else {
+    let Some(d) = accepted(image) else {
         return strange();
     };
     leave(device::transact(d, memory, area, samples, output), image)
@@ -82,7 +72,7 @@ pub fn transact(
 pub fn power_cycle(image: &mut [u8], memory: &mut [u8], area: &[u8]) -> Reply
     ensures { imaged_as result image.new memory.new area.now [] ≡ power_in image.old (lends memory.old area.now) }
 {
-    let Some(d) = record_in(image) else {
+    let Some(d) = accepted(image) else {
         return strange();
     };
     leave(device::power_cycle(d, memory, area), image)
@@ -92,7 +82,7 @@ pub fn power_cycle(image: &mut [u8], memory: &mut [u8], area: &[u8]) -> Reply
 pub fn open(image: &mut [u8], memory: &[u8], area: &[u8]) -> Reply
     ensures { imaged_as result image.new memory.now area.now [] ≡ open_in image.old (lends memory.now area.now) }
 {
-    let Some(d) = record_in(image) else {
+    let Some(d) = accepted(image) else {
         return strange();
     };
     leave(device::open(d, memory, area), image)
@@ -108,7 +98,7 @@ pub fn feed(
 ) -> Reply
     ensures { imaged_as result image.new memory.new area.new output.new ≡ feed_in image.old (lends memory.old area.old) samples.now output.old }
 {
-    let Some(d) = record_in(image) else {
+    let Some(d) = accepted(image) else {
         return strange();
     };
     leave(device::feed(d, memory, area, samples, output), image)
@@ -118,7 +108,7 @@ pub fn feed(
 pub fn close(image: &mut [u8], memory: &[u8], area: &[u8]) -> Reply
     ensures { imaged_as result image.new memory.now area.now [] ≡ close_in image.old (lends memory.now area.now) }
 {
-    let Some(d) = record_in(image) else {
+    let Some(d) = accepted(image) else {
         return strange();
     };
     leave(device::close(d, memory, area), image)
@@ -126,6 +116,7 @@ pub fn close(image: &mut [u8], memory: &[u8], area: &[u8]) -> Reply
 
 // A fresh chip of a part of the MRAM, with its four bytes of device identity and its unique number. Whatever the bytes were, they
 // are written over, so that only their number is looked at.
+#[tactic(auto, using(image::specs::Laws::eight_whole, parts::specs::Laws::part_back), unfolding(crate::specs::Fresh::fresh_mram_in))]
 fn fresh_mram(
     part: Part,
     n: u8,
@@ -143,18 +134,20 @@ fn fresh_mram(
     if !is_offered(part, n) {
         return Err(Answer::Size);
     }
-    if device.len() != 4 {
+    let [a, b, c, d] = device else {
         return Err(Answer::Size);
-    }
-    if unique.len() != 8 {
+    };
+    let Ok(unique) = <[u8; 8]>::try_from(unique) else {
         return Err(Answer::Size);
-    }
-    let eight = [device[0], device[1], device[2], device[3], 0, 0, 0, 0];
+    };
     let make = Make {
         part: u8::from(part),
         n,
     };
-    put_record(Device::fresh(make, eight, eight_at(unique, 0)), image);
+    put_record(
+        Device::fresh(make, [*a, *b, *c, *d, 0, 0, 0, 0], unique),
+        image,
+    );
     Ok(())
 }
 
@@ -175,6 +168,7 @@ pub fn fresh_m32(n: u8, device: &[u8], unique: &[u8], image: &mut [u8]) -> Resul
 }
 
 // A fresh chip of part P, with its eight bytes of device identity.
+#[tactic(auto, using(image::specs::Laws::eight_whole), unfolding(crate::specs::Fresh::fresh_p_in))]
 pub fn fresh_p(n: u8, device: &[u8], image: &mut [u8]) -> Result<(), Answer>
     ensures told { made_in result image.new ≡ fresh_p_in n device.now image.old }
     ensures refused { IfErr result (λ v. is_done v ≡ false) }
@@ -185,13 +179,13 @@ pub fn fresh_p(n: u8, device: &[u8], image: &mut [u8]) -> Result<(), Answer>
     if !is_offered(Part::P, n) {
         return Err(Answer::Size);
     }
-    if device.len() != 8 {
+    let Ok(device) = <[u8; 8]>::try_from(device) else {
         return Err(Answer::Size);
-    }
+    };
     let make = Make {
         part: PartP::NUMBER,
         n,
     };
-    put_record(Device::fresh(make, eight_at(device, 0), [0; 8]), image);
+    put_record(Device::fresh(make, device, [0; 8]), image);
     Ok(())
 }

@@ -4,8 +4,7 @@
 // holds one is answered 3.
 #![tactic(auto)]
 
-ghost use Rattle.std.specs.Prelude.{◌≡◌, ◌==◌, drop};
-ghost use Rattle.std.specs.List.{list_all};
+ghost use Rattle.std.specs.Prelude.{◌≡◌, drop};
 ghost use Rattle.state_check.specs.Values.{status_allowed, cr3_allowed, cr4_allowed, configurations_allowed, mode_register_allowed, reserved_of};
 ghost use Rattle.state_check.specs.States.{mode_allowed, zeros, mram_registers, psram_registers, mram_volatile, psram_volatile, mram_identity, psram_identity, mram_valid, psram_valid, in_range};
 
@@ -75,8 +74,8 @@ pub fn all_zero(a: [u8; 8], from: usize) -> bool
 }
 
 // Whether all of these bytes are 0.
-fn are_zero(bytes: &[u8]) -> bool
-    ensures { result ≡ list_all (λ x. x == 0) bytes.now }
+pub fn are_zero(bytes: &[u8]) -> bool
+    ensures { result ≡ zeros bytes.now }
 {
     bytes.iter().all(|b| *b == 0)
 }

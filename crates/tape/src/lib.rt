@@ -129,7 +129,7 @@ pub fn entry_at(tape: &[u8], at: usize) -> Result<Option<Found>, Fault>
     if left < HEAD {
         return Err(Fault::Cut);
     }
-    let long = word_at(tape, at) as usize;
+    let long = usize::from(word_at(tape, at));
     if left - HEAD < long {
         return Err(Fault::Cut);
     }

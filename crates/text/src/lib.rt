@@ -10,7 +10,8 @@ pub use buffers::Page;
 use std::fmt;
 use std::fmt::Write;
 
-// A number in decimal.
+// A number in decimal. It is put byte by byte, not by `write!`: the clause says which bytes they are (`decimal_of`), which
+// `write!` tells no proof.
 pub fn put_decimal(page: &mut Page, v: u64)
     ensures same_buffer { page.new.bytes.ghost_name ≡ page.old.bytes.ghost_name }
     ensures put { shown page.new ≡ puts_of (decimal_of v) (shown page.old) }

@@ -3,7 +3,6 @@
 use Rattle.std.proofs.Common.{rules, ◌≡◌, ◌∙◌, ap, length, arith, drop, ◌-◌, ℕ, ◌≤◌}
 use Rattle.std.proofs.lemmas.List.{drop_min, take_all, length-drop}
 use Rattle.state_check.specs.States.{zeros}
-use Rattle.state_check.specs.StateLaws.{zeros_is}
 use Rattle.state_check.proofs.all_zero.Goals as goal
 
 pub returns : goal.returns
@@ -12,4 +11,4 @@ returns c =
     let m : ℕ = c.min.result in
     let n : length (drop m c.args.a) ≤ 8 - m = let e = length-drop m c.args.a in omega arith in
     let d : drop m c.args.a ≡ drop c.args.from c.args.a = rw (c.min.ensures, ← l) (drop_min c.args.from c.args.a) in
-    c.are_zero.ensures ∙ zeros_is _ ∙ ap zeros (take_all (8 - m) (drop m c.args.a) n ∙ d)
+    c.are_zero.ensures ∙ ap zeros (take_all (8 - m) (drop m c.args.a) n ∙ d)
