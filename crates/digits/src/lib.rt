@@ -8,7 +8,8 @@ ghost use Rattle.digits.specs.Digits.{digit_of, behind, number_of, are_digits, p
 
 use buffers::Page;
 
-// The value of a digit.
+// The value of a digit. The ranges are those of `digit_of`, and each has its arm; `to_digit` would want a char and give a u32, and
+// both turned again is no plainer.
 #[tactic(auto, unfolding(crate::specs::Digits::digit_of))]
 fn digit(b: u8) -> Option<u8>
     ensures { result ≡ digit_of b }

@@ -8,16 +8,9 @@ use drive_rows::show;
 use drive_texts::{put_long, put_refusal, put_wrong};
 use std::env::{Env, FillError};
 use std::fmt;
+use tape::{Kind, MOST_SAMPLES};
 use text::{flush, flush_to};
 use units::Clocks;
-
-// The most samples of a transaction on a tape.
-const MOST_SAMPLES: usize = 4096;
-
-// The kinds of a tape's records.
-const TRANSACTION: u8 = 1;
-
-const FRESH: u8 = 3;
 
 // Word `i` of the command line, or nothing where there is none. One too long for the buffer is wrong.
 fn hear(
@@ -46,9 +39,11 @@ fn hear_all(rt: &impl Env, word: &mut [u8], written: &mut Page) -> Result<Asked,
     ended(a)
 }
 
-// The front of a record: the length of its payload and its kind.
-fn put_record(page: &mut Page, long: usize, kind: u8) {
-    page.put_all(&[(long % 256) as u8, (long / 256 % 256) as u8, kind, 0]);
+// A record: the length of its payload, its kind and the payload.
+fn put_record(page: &mut Page, kind: Kind, payload: &[u8]) {
+    page.put_all(&((payload.len() % 65536) as u16).to_le_bytes());
+    page.put_all(&u16::from(kind).to_le_bytes());
+    page.put_all(payload);
 }
 
 // The records of a tape, with a fresh chip before the transaction where one is asked for. A transaction on it is shorter
@@ -60,21 +55,20 @@ fn write_tape(page: &mut Page, a: Asked, samples: &[u8]) -> fmt::Result {
         return Ok(());
     }
     if let Some(n) = a.fresh {
-        put_record(page, 2, FRESH);
-        page.put_all(&[a.order.part, n]);
+        put_record(page, Kind::Fresh, &[a.order.part, n]);
     }
-    put_record(page, samples.len(), TRANSACTION);
+    put_record(page, Kind::Transaction, samples);
     flush(page);
-    io::write_all(1, samples);
     Ok(())
 }
 
 // What was built, in words or as a tape.
 fn tell(page: &mut Page, a: Asked, written: &[u8], samples: &[u8]) -> fmt::Result {
     if a.tape {
-        return write_tape(page, a, samples);
+        write_tape(page, a, samples)
+    } else {
+        show(page, a.order, Clocks::of_samples(samples), written, samples)
     }
-    show(page, a.order, Clocks::of_samples(samples), written, samples)
 }
 
 fn build(page: &mut Page, a: Asked, written: &[u8], samples: &mut [u8]) -> fmt::Result {

@@ -41,7 +41,8 @@ impl fmt::Display for Due {
 }
 
 // Why words are no command: the last of them, of so many bytes, is not what was due; or what was due is missing; or
-// --tape is, where there is --fresh.
+// --tape is, where there is --fresh. The word itself cannot be in it: its buffer is lent anew for each word, and a fault that
+// borrowed it would hold it for all of them.
 #[derive(Clone, Copy, PartialEq, Eq)]
 pub enum Fault {
     Wrong(Due, usize),
@@ -58,7 +59,8 @@ pub struct Asked {
     pub due: Due,
 }
 
-// Before the first word. The wait is that of a fresh chip (D40).
+// Before the first word. The wait is that of a fresh chip (D40). No part and no mode has the number 0: both are asked for before
+// any option, and until both came `due` says so, and no order leaves `ended`.
 pub fn nothing_asked() -> Asked {
     Asked {
         order: Order {
@@ -85,7 +87,7 @@ fn part_in(word: &[u8]) -> Option<Part> {
     }
 }
 
-// The mode of a digit.
+// The mode of a digit, as the number that an order has for the C interface: as Wires it would be turned into that again.
 fn mode_in(word: &[u8]) -> Option<u8> {
     match word {
         [b'1'] => Some(1),
@@ -97,10 +99,11 @@ fn mode_in(word: &[u8]) -> Option<u8> {
 
 // A number of so many hexadecimal digits at most.
 fn hex_in(word: &[u8], digits: usize) -> Option<u32> {
-    if digits < word.len() {
-        return None;
+    if word.len() <= digits {
+        number_in(word, 16, u32::MAX)
+    } else {
+        None
     }
-    number_in(word, 16, u32::MAX)
 }
 
 // A byte, in one or two of them.
@@ -185,10 +188,10 @@ pub fn take_word(a: Asked, word: &[u8], written: &mut Page) -> Result<Asked, Fau
 // After the last word: all are there, and --fresh goes with --tape (D41).
 pub fn ended(a: Asked) -> Result<Asked, Fault> {
     if a.due != Due::Option {
-        return Err(Fault::Missing(a.due));
+        Err(Fault::Missing(a.due))
+    } else if a.fresh.is_some() && !a.tape {
+        Err(Fault::Untaped)
+    } else {
+        Ok(a)
     }
-    if a.fresh.is_some() && !a.tape {
-        return Err(Fault::Untaped);
-    }
-    Ok(a)
 }

@@ -6,7 +6,7 @@ use counts::Counts;
 use host_order::{Order, body_asked, kind_asked};
 use kinds::Kind;
 use list_clocks::put_counts;
-use list_rows::{put_clocks, put_row};
+use list_rows::{Count, put_row};
 use list_views::{View, phases_of, view_of};
 use parts::Part;
 use plan_in_force::address_length;
@@ -14,12 +14,12 @@ use record::{Device, Make, mode_wires};
 use std::fmt;
 use std::fmt::Write;
 use text::{Page, flush, put_each};
-use units::{Bytes, Clocks, bytes_to_clocks};
+use units::{Clocks, byte_clocks};
 
 // The clocks of each phase: the data has what the others leave.
 fn counts_of(o: Order, k: Kind, all: Clocks) -> Counts {
     let w = mode_wires(o.mode);
-    let command = bytes_to_clocks(Bytes::one(), w);
+    let command = byte_clocks(w);
     let address = address_length(address_of(k), later_wires(k, w));
     let wait = wait_of(k, w, o.cr2);
     Counts {
@@ -42,9 +42,7 @@ fn chip_for(o: Order) -> Device {
 
 // The first line, and the rows on the clocks.
 fn put_rows(page: &mut Page, v: View, c: Counts, all: Clocks) -> fmt::Result {
-    write!(page, "{}, ", v.setting.part)?;
-    put_clocks(page, all, 0)?;
-    writeln!(page)?;
+    writeln!(page, "{}, {}", v.setting.part, Count::of_clocks(all))?;
     put_counts(page, v, c)
 }
 

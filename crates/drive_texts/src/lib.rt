@@ -5,7 +5,7 @@ use commands::plans::Body;
 use drive_arguments::Fault;
 use host_order::{Order, body_asked, kind_asked};
 use list_answers::put_named;
-use list_rows::put_bytes;
+use list_rows::Count;
 use parts::Part;
 use record::{Answer, mode_wires};
 use std::fmt;
@@ -76,12 +76,10 @@ fn size_of(b: Body) -> Option<Bytes> {
 }
 
 fn put_count(page: &mut Page, text: &str, b: Body) -> fmt::Result {
-    page.write_str(text)?;
-    if let Some(size) = size_of(b) {
-        page.write_str(" ")?;
-        put_bytes(page, size)?;
+    match size_of(b) {
+        Some(size) => writeln!(page, "{text} {}.", Count::of_bytes(size)),
+        None => writeln!(page, "{text}."),
     }
-    page.write_str(".\n")
 }
 
 // An opcode that the part has not in this mode.

@@ -38,12 +38,12 @@ fn lacking(k: Kind) -> &'static str {
 // Which of the rules on short transactions it was.
 fn short_of(v: View) -> &'static str {
     if v.opcode.is_none() {
-        return "select rose before all 8 command bits came.\n";
+        "select rose before all 8 command bits came.\n"
+    } else if v.address.is_none() && is_addressed(v.setting, v.kind) {
+        "select rose before all 24 address bits came.\n"
+    } else {
+        lacking(v.kind)
     }
-    if v.address.is_none() && is_addressed(v.setting, v.kind) {
-        return "select rose before all 24 address bits came.\n";
-    }
-    lacking(v.kind)
 }
 
 // Why the address is refused.
@@ -112,7 +112,8 @@ fn rule(v: View, a: Answer) -> &'static str {
 // The rule that decides a transaction.
 pub fn put_rule(page: &mut Page, v: View, samples: &[u8], a: Answer) -> fmt::Result {
     if a == Answer::Sample {
-        return put_sample(page, samples);
+        put_sample(page, samples)
+    } else {
+        page.write_str(rule(v, a))
     }
-    page.write_str(rule(v, a))
 }

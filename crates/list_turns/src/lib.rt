@@ -2,15 +2,12 @@
 #![tactic(auto)]
 
 use list_endings::put_last;
-use list_paragraphs::{State, put_head, put_played};
+use list_paragraphs::{Played, State, put_head, put_played};
 use std::fmt;
 use tape::Chip;
 use tape_reader::Reader;
-use tape_session::{Session, Turn};
+use tape_session::{Session, TURNS, Turn};
 use text::Page;
-
-// Every record takes four bytes of the tape or more, so that there are no more turns than these.
-const TURNS: u64 = 16385;
 
 // Memory and area for a chip, which has the front of them.
 #[derive(Drop)]
@@ -62,8 +59,15 @@ fn put_turn(
     let (Some(old), Some(new)) = (before.state(t.chip), now.state(after)) else {
         return Ok(());
     };
+    let played = Played {
+        old,
+        new,
+        outcome: t.outcome,
+        samples: r.payload(),
+        output,
+    };
     put_head(page, k, r.at)?;
-    put_played(page, t.entry, old, new, t.outcome, r.payload(), output)
+    put_played(page, t.entry, played)
 }
 
 // Every record, to the end or to one that is bad. `before` has room for the bytes as they were before a record. The loop is its own: it

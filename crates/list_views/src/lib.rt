@@ -46,22 +46,33 @@ pub fn phases_of(c: Counts, clocks: &[u8]) -> Phases<'_> {
     }
 }
 
-// The number that samples carry.
-fn number_in(samples: &[u8], w: Wires) -> u32 {
-    samples
+// The number that clocks carry. `bits` says what bits a clock has: those of a sample stand elsewhere than those of a driven one.
+fn number_in<F: Fn(u8) -> u8>(clocks: &[u8], w: Wires, bits: &F) -> u32
+    requires { F.IsAlwaysCallable bits.now }
+{
+    clocks
         .iter()
-        .fold(0, |number, x| wires::shift_in(number, *x, w))
+        .fold(0, |number, x| wires::shift_in(number, bits(*x), w))
+}
+
+// The byte that the last clocks of them carry.
+fn byte_in<F: Fn(u8) -> u8>(clocks: &[u8], w: Wires, bits: &F) -> u8
+    requires { F.IsAlwaysCallable bits.now }
+{
+    (number_in(clocks, w, bits) % 256) as u8
 }
 
 // The opcode, where all command bits came.
 fn opcode_in(s: Setting, c: Counts, samples: &[u8]) -> Option<u8> {
     if c.command < plan_in_force::command_clocks(s) {
-        return None;
+        None
+    } else {
+        Some(byte_in(samples, s.wires, &|x| x))
     }
-    Some((number_in(samples, s.wires) % 256) as u8)
 }
 
-// Whether the command has an address.
+// Whether the command has an address. Setting and kind travel apart, here and below, as the functions of plan_in_force and
+// `View` have them.
 pub fn is_addressed(s: Setting, k: Kind) -> bool {
     Clocks::none() < plan_in_force::address_clocks(s, k)
 }
@@ -69,9 +80,10 @@ pub fn is_addressed(s: Setting, k: Kind) -> bool {
 // The address, where the command has one and all its bits came.
 fn address_in(s: Setting, k: Kind, c: Counts, samples: &[u8]) -> Option<u32> {
     if !is_addressed(s, k) || c.address < plan_in_force::address_clocks(s, k) {
-        return None;
+        None
+    } else {
+        Some(number_in(samples, plan_in_force::wires_for(s, k), &|x| x))
     }
-    Some(number_in(samples, plan_in_force::wires_for(s, k)))
 }
 
 // All of it, for a transaction that found the chip so.
@@ -91,15 +103,11 @@ pub fn view_of(d: Device, c: Counts, samples: &[u8]) -> View {
     }
 }
 
-// The whole bytes that clocks carry, put on a page. `bits` says what bits a clock has: those of a sample stand
-// elsewhere than those of a driven one.
+// The whole bytes that clocks carry, put on a page. `bits` says what bits a clock has.
 pub fn gather<F: Fn(u8) -> u8>(page: &mut Page, clocks: &[u8], w: Wires, bits: F)
     requires { F.IsAlwaysCallable bits }
 {
     for byte in clocks.chunks_exact(units::byte_clocks(w).in_clocks()) {
-        let number = byte
-            .iter()
-            .fold(0, |number, x| wires::shift_in(number, bits(*x), w));
-        page.put((number % 256) as u8);
+        page.put(byte_in(byte, w, &bits));
     }
 }

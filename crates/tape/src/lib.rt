@@ -3,7 +3,7 @@
 // A record is a payload length and a kind, two bytes each with the low byte first, and then the payload.
 #![tactic(auto)]
 
-ghost use Rattle.std.specs.Prelude.{◌≡◌, ◌+◌, ◌<◌, length};
+ghost use Rattle.std.specs.Prelude.{◌≡◌, ◌+◌, ◌<◌, length, Ok};
 ghost use Rattle.contract_words.specs.Words.{lends, world_of};
 ghost use Rattle.tape.specs.Tape.{word_at, kind_named, fresh_entry, entry_for, found_of};
 ghost use Rattle.tape.specs.Play.{memory_of, socket_of, chip_of, chip_for, play_of, played_at};
@@ -60,6 +60,19 @@ impl TryFrom<u16> for Kind {
             2 => Ok(Kind::PowerCycle),
             3 => Ok(Kind::Fresh),
             _ => Err(Fault::Strange),
+        }
+    }
+}
+
+// The number of a kind.
+impl From<Kind> for u16 {
+    ghost from_gives = { λ kind number. kind_named number ≡ Ok kind };
+
+    fn from(kind: Kind) -> u16 {
+        match kind {
+            Kind::Transaction => 1,
+            Kind::PowerCycle => 2,
+            Kind::Fresh => 3,
         }
     }
 }
