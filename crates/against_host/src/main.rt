@@ -4,7 +4,7 @@
 
 use against_input::{Cut, play, take, take_head};
 use bench_columns::{digest_column, fill, room};
-use buffers::number_of;
+use buffers::number_at;
 use host_order::Order;
 use record::Answer;
 use std::fmt;
@@ -37,8 +37,8 @@ impl TryFrom<[u8; 24]> for Request {
             opcode: h[2],
             mode: h[3],
             cr2: h[4],
-            address: number_of(h[8], h[9], h[10], h[11]),
-            wanted: Bytes::stated(number_of(h[12], h[13], h[14], h[15]) as usize),
+            address: number_at(&h, 8),
+            wanted: Bytes::stated(number_at(&h, 12) as usize),
         };
         let call = match h[0] {
             1 => Call::Build(order),
@@ -47,8 +47,8 @@ impl TryFrom<[u8; 24]> for Request {
         };
         Ok(Request {
             call,
-            room: number_of(h[16], h[17], h[18], h[19]) as usize,
-            long: number_of(h[20], h[21], h[22], h[23]) as usize,
+            room: number_at(&h, 16) as usize,
+            long: number_at(&h, 20) as usize,
         })
     }
 }
@@ -64,11 +64,9 @@ fn called(c: Call, input: &[u8], buffer: &mut [u8]) -> Result<usize, Answer> {
 // The line of request `k`, on a buffer of its room.
 fn put_line(page: &mut Page, k: u64, c: Call, input: &[u8], buffer: &mut [u8]) -> fmt::Result {
     fill(buffer);
-    let (answer, number) = match called(c, input, buffer) {
-        Ok(number) => (Answer::Done, number),
-        Err(answer) => (answer, 0),
-    };
-    write!(page, "{k} {} {number}", u8::from(answer))?;
+    let made = called(c, input, buffer);
+    let answer = made.err().unwrap_or(Answer::Done);
+    write!(page, "{k} {} {}", u8::from(answer), made.unwrap_or(0))?;
     digest_column(page, buffer)?;
     writeln!(page)
 }

@@ -1,7 +1,7 @@
 // A page: bytes gathered in a lent buffer, one after the other. What finds no room is left out, and the place stays.
 #![tactic(auto)]
 
-ghost use Rattle.std.specs.Prelude.{◌≡◌, ◌+◌, ◌*◌, length};
+ghost use Rattle.std.specs.Prelude.{◌≡◌, ◌+◌, ◌*◌, ◌≤◌, length, get_or};
 ghost use Rattle.buffers.specs.Page.{page, put_of, puts_of};
 ghost use Rattle.buffers.specs.Shown.{shown};
 
@@ -92,4 +92,12 @@ pub fn number_of(a: u8, b: u8, c: u8, d: u8) -> u32
     ensures { result ≡ a + 256 * b + 65536 * (c + 256 * d) }
 {
     u32::from_le_bytes([a, b, c, d])
+}
+
+// The number that the four bytes from a place on are.
+pub fn number_at(bytes: &[u8], at: usize) -> u32
+    requires { at + 4 ≤ length bytes.now }
+    ensures { result ≡ get_or bytes.now at 0 + 256 * get_or bytes.now (at + 1) 0 + 65536 * (get_or bytes.now (at + 2) 0 + 256 * get_or bytes.now (at + 3) 0) }
+{
+    number_of(bytes[at], bytes[at + 1], bytes[at + 2], bytes[at + 3])
 }

@@ -43,6 +43,10 @@ impl From<Fault> for Stop {
     }
 }
 
+// Every record takes four bytes of the tape or more, so that a tape has no more turns than these, the one at its end included. The
+// loop over them stands where the lines are printed: each program leaves it for its own reasons, and prints at its own places.
+pub const TURNS: u64 = 16385;
+
 // The front of a tape and an empty socket.
 pub fn start() -> Session
     ensures { result ≡ started }
@@ -79,14 +83,16 @@ pub fn advance(
         &mut area[..edge],
         output,
     );
-    let device = outcome.device;
     Ok(Turn {
         entry,
         chip,
         outcome,
         session: Session {
             at: f.next,
-            chip: Some(Chip { device, ..chip }),
+            chip: Some(Chip {
+                device: outcome.device,
+                ..chip
+            }),
         },
     })
 }
