@@ -18,12 +18,12 @@ pub fn call_columns(page: &mut Page, k: u64, answer: Answer, counts: Counts) -> 
 
 // The name of the part; a number that is no part's has none.
 fn part(page: &mut Page, d: Device) -> fmt::Result {
-    match Part::try_from(d.make.part) {
-        Ok(Part::M) => write!(page, " M"),
-        Ok(Part::P) => write!(page, " P"),
-        Ok(Part::M32) => write!(page, " M32"),
-        Err(_) => Ok(()),
-    }
+    page.write_str(match Part::try_from(d.make.part) {
+        Ok(Part::M) => " M",
+        Ok(Part::P) => " P",
+        Ok(Part::M32) => " M32",
+        Err(_) => "",
+    })
 }
 
 // The chip's n and mode, and its latch, arming, sleep and toggle as digits.
@@ -70,14 +70,12 @@ fn driven(page: &mut Page, out: &[u8]) -> fmt::Result {
     bytes_column(page, &rest[..rest.len() - undriven])
 }
 
-// What a transaction drove: nothing where it was refused.
-pub fn output_columns(page: &mut Page, answer: Answer, long: usize, out: &[u8]) -> fmt::Result {
+// A digest of all output that was lent, and what a transaction drove in its clocks: nothing where it was refused.
+pub fn output_columns(page: &mut Page, answer: Answer, out: &[u8], clocked: &[u8]) -> fmt::Result {
     digest_column(page, out)?;
     if is_refusal(answer) {
-        return write!(page, " - -");
-    }
-    match out.get(..long) {
-        Some(clocked) => driven(page, clocked),
-        None => Ok(()),
+        write!(page, " - -")
+    } else {
+        driven(page, clocked)
     }
 }

@@ -64,11 +64,9 @@ fn called(c: Call, input: &[u8], buffer: &mut [u8]) -> Result<usize, Answer> {
 // The line of request `k`, on a buffer of its room.
 fn put_line(page: &mut Page, k: u64, c: Call, input: &[u8], buffer: &mut [u8]) -> fmt::Result {
     fill(buffer);
-    let (answer, number) = match called(c, input, buffer) {
-        Ok(number) => (Answer::Done, number),
-        Err(answer) => (answer, 0),
-    };
-    write!(page, "{k} {} {number}", u8::from(answer))?;
+    let made = called(c, input, buffer);
+    let answer = made.err().unwrap_or(Answer::Done);
+    write!(page, "{k} {} {}", u8::from(answer), made.unwrap_or(0))?;
     digest_column(page, buffer)?;
     writeln!(page)
 }

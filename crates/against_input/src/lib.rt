@@ -39,7 +39,8 @@ fn pass_over(count: usize) -> Result<(), Cut> {
 }
 
 // Takes the next tape of standard input into a buffer, and tells its length, or nothing at the end of the input. A tape too long
-// for the buffer is passed over.
+// for the buffer is passed over. The length is told and no slice, since one that is too long has a length too, which is printed:
+// `get(..long)` tells the two apart.
 pub fn take_tape(tape: &mut [u8]) -> Result<Option<usize>, Cut> {
     let Some(four) = take_head()? else {
         return Ok(None);

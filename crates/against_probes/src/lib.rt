@@ -4,7 +4,7 @@
 
 use against_columns::call_columns;
 use against_input::Cut;
-use bench_columns::digest_column;
+use bench_columns::{digest_column, fill_by};
 use buffers::number_at;
 use counts::Counts;
 use image::{IMAGE, put_record, record_of};
@@ -165,38 +165,31 @@ impl<'a> Lent<'a> {
     }
 }
 
-// Each byte by its place.
-fn fill<F: Fn(usize) -> usize>(buffer: &mut [u8], byte: F)
-    requires { F.IsAlwaysCallable byte }
-{
-    for (i, x) in buffer.iter_mut().enumerate() {
-        *x = (byte(i) % 256) as u8;
-    }
-}
-
 // Memory and area of a probe that does not go on, and the output of any. The three differ from each other, and memory from one
 // 256 bytes to the next.
 fn fill_lent(p: Probe, t: &mut Lent) {
-    let seed = p.seed as usize;
+    let seed = usize::from(p.seed);
     if !p.is_next {
-        fill(t.memory, |i| seed + i % 256 * 7 + i / 251);
-        fill(t.area, |i| seed + 3 + i % 256 * 5);
+        fill_by(t.memory, |i| {
+            ((seed + i % 256 * 7 + i / 251) % 256) as u8
+        });
+        fill_by(t.area, |i| ((seed + 3 + i % 256 * 5) % 256) as u8);
     }
-    fill(t.output, |i| seed + 11 + i % 256 * 13);
+    fill_by(t.output, |i| ((seed + 11 + i % 256 * 13) % 256) as u8);
 }
 
-// ---- the call. What is lent is handed on and comes back: the prover has no rule for a field that is looked at while another one
-// of the same loan is written.
+// ---- the call
 
-// Over the record, whatever it is worth: none of the image's bytes is looked at. The image is then that of the next record.
-fn over_record<'a>(s: Step, t: Lent<'a>) -> Result<(Reply, Lent<'a>), Cut> {
-    let Lent {
-        image,
-        memory,
-        area,
-        samples,
-        output,
-    } = t;
+// Over the record, whatever it is worth: none of the image's bytes is looked at. The image is then that of the next record. What is
+// lent is named one by one, here and below, as the calls of the device and those over an image have it.
+fn over_record(
+    s: Step,
+    image: &mut [u8],
+    memory: &mut [u8],
+    area: &mut [u8],
+    samples: &[u8],
+    output: &mut [u8],
+) -> Result<Reply, Cut> {
     let d = record_of(<&[u8; IMAGE]>::try_from(&image[..]).map_err(|_| Cut)?);
     let o = match s {
         Step::Transact => device::transact(d, memory, area, samples, output),
@@ -206,58 +199,31 @@ fn over_record<'a>(s: Step, t: Lent<'a>) -> Result<(Reply, Lent<'a>), Cut> {
         Step::Close => device::close(d, memory, area),
     };
     put_record(o.device, image);
-    let reply = Reply {
+    Ok(Reply {
         answer: o.answer,
         counts: o.counts,
-    };
-    Ok((
-        reply,
-        Lent {
-            image,
-            memory,
-            area,
-            samples,
-            output,
-        },
-    ))
+    })
 }
 
-fn over_image<'a>(s: Step, t: Lent<'a>) -> (Reply, Lent<'a>) {
-    let Lent {
-        image,
-        memory,
-        area,
-        samples,
-        output,
-    } = t;
-    let reply = match s {
+fn over_image(
+    s: Step,
+    image: &mut [u8],
+    memory: &mut [u8],
+    area: &mut [u8],
+    samples: &[u8],
+    output: &mut [u8],
+) -> Reply {
+    match s {
         Step::Transact => image_calls::transact(image, memory, area, samples, output),
         Step::PowerCycle => image_calls::power_cycle(image, memory, area),
         Step::Open => image_calls::open(image, memory, area),
         Step::Feed => image_calls::feed(image, memory, area, samples, output),
         Step::Close => image_calls::close(image, memory, area),
-    };
-    (
-        reply,
-        Lent {
-            image,
-            memory,
-            area,
-            samples,
-            output,
-        },
-    )
+    }
 }
 
 // A fresh chip, with the identities that stand at the front of the samples.
-fn fresh<'a>(part: Part, p: Probe, t: Lent<'a>) -> Result<(Reply, Lent<'a>), Cut> {
-    let Lent {
-        image,
-        memory,
-        area,
-        samples,
-        output,
-    } = t;
+fn fresh(part: Part, p: Probe, samples: &[u8], image: &mut [u8]) -> Result<Reply, Cut> {
     let (device, rest) = samples.split_at_checked(p.lengths.device).ok_or(Cut)?;
     let unique = rest.get(..p.lengths.unique).ok_or(Cut)?;
     let made = match part {
@@ -265,31 +231,37 @@ fn fresh<'a>(part: Part, p: Probe, t: Lent<'a>) -> Result<(Reply, Lent<'a>), Cut
         Part::P => image_calls::fresh_p(p.n, device, image),
         Part::M32 => image_calls::fresh_m32(p.n, device, unique, image),
     };
-    let reply = Reply {
+    Ok(Reply {
         answer: made.err().unwrap_or(Answer::Done),
         counts: Counts::none(),
-    };
-    Ok((
-        reply,
-        Lent {
-            image,
-            memory,
-            area,
-            samples,
-            output,
-        },
-    ))
+    })
 }
 
 // A call on what is filled, or on what was left. There is none over a record whose image has another length, and no fresh chip
-// whose identities are not among the samples.
+// whose identities are not among the samples. What is lent is taken apart and handed back: Rattle knows no read of one field while
+// another one of the same loan is lent on.
 pub fn called<'a>(p: Probe, mut t: Lent<'a>) -> Result<(Reply, Lent<'a>), Cut> {
     fill_lent(p, &mut t);
-    match p.call {
-        Call::OverRecord(s) => over_record(s, t),
-        Call::OverImage(s) => Ok(over_image(s, t)),
-        Call::Fresh(part) => fresh(part, p, t),
-    }
+    let Lent {
+        image,
+        memory,
+        area,
+        samples,
+        output,
+    } = t;
+    let reply = match p.call {
+        Call::OverRecord(s) => over_record(s, image, memory, area, samples, output)?,
+        Call::OverImage(s) => over_image(s, image, memory, area, samples, output),
+        Call::Fresh(part) => fresh(part, p, samples, image)?,
+    };
+    let left = Lent {
+        image,
+        memory,
+        area,
+        samples,
+        output,
+    };
+    Ok((reply, left))
 }
 
 // ---- its line

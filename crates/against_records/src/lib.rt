@@ -9,18 +9,15 @@ use std::fmt;
 use std::fmt::Write;
 use tape::{Entry, MOST_SAMPLES, Socket};
 use tape_reader::Reader;
-use tape_session::Turn;
+use tape_session::{TURNS, Turn};
 use text::Page;
 
 // The bytes of output past the samples, which a call is to leave alone.
 pub const SPARE: usize = 3;
 
-// Every record takes four bytes of the tape or more, so that there are no more turns than these.
-const TURNS: u64 = 16385;
-
-fn output_of(page: &mut Page, e: Entry, answer: Answer, long: usize, out: &[u8]) -> fmt::Result {
+fn output_of(page: &mut Page, e: Entry, answer: Answer, out: &[u8], clocked: &[u8]) -> fmt::Result {
     match e {
-        Entry::Transaction => output_columns(page, answer, long, out),
+        Entry::Transaction => output_columns(page, answer, out, clocked),
         Entry::PowerCycle | Entry::Fresh(_) => page.write_str(" - - -"),
     }
 }
@@ -32,15 +29,17 @@ fn outcome(page: &mut Page, k: u64, o: Outcome) -> fmt::Result {
 
 // Digests of the chip's part of memory and area.
 fn stores(page: &mut Page, s: Socket, memory: &[u8], area: &[u8]) -> fmt::Result {
-    let size = s.memory.in_bytes();
-    let edge = s.area.in_bytes();
-    if memory.len() < size || area.len() < edge {
+    let memory = memory.get(..s.memory.in_bytes());
+    let area = area.get(..s.area.in_bytes());
+    let (Some(memory), Some(area)) = (memory, area) else {
         return Ok(());
-    }
-    digest_column(page, &memory[..size])?;
-    digest_column(page, &area[..edge])
+    };
+    digest_column(page, memory)?;
+    digest_column(page, area)
 }
 
+// The output comes with the clocks of the record and is cut here: in the loop below, a part of what is lent for one turn has no lifetime
+// of its own.
 fn line(
     page: &mut Page,
     k: u64,
@@ -52,13 +51,15 @@ fn line(
 ) -> fmt::Result {
     outcome(page, k, t.outcome)?;
     stores(page, t.chip.socket, memory, area)?;
-    output_of(page, t.entry, t.outcome.answer, long, out)?;
+    let clocked = out.get(..long).unwrap_or(&[]);
+    output_of(page, t.entry, t.outcome.answer, out, clocked)?;
     writeln!(page)
 }
 
 // Every record, to the end or to one that is bad. A payload longer than any transaction has is a bad record; the output that is
-// lent for any other is longer than its samples. The loop is its own: `bench_play` lends one output for all records, and a closure that is
-// given all that is lent is no plainer.
+// lent for any other is longer than its samples. The loop is its own: `bench_play` lends one output for all records, and a closure
+// that is given all that is lent is no plainer. Memory, area and output are lent apart, as `tape_session::advance` and the calls of
+// the device have them.
 pub fn put_turns(
     page: &mut Page,
     tape: &[u8],

@@ -2,9 +2,8 @@
 // digests of memory, area and output, and the driven samples. The second program prints the same.
 #![tactic(auto)]
 
-use against_input::{Cut, take_tape};
+use against_input::{Cut, play, take_tape};
 use against_records::{SPARE, put_turns};
-use bench_columns::cut;
 use bench_lines::last_line;
 use parts::LARGEST_AREA;
 use std::fmt;
@@ -12,35 +11,40 @@ use std::fmt::Write;
 use tape::{LARGEST_MEMORY, MOST_SAMPLES};
 use text::Page;
 
-// The tapes that are taken at most.
-const TAPES: u64 = 1000000;
-
-// Every tape, to the end of the input.
-fn put_tapes(
+// The lines of tape `k` and of its records. One too long for the buffer is bad.
+fn put_tape(
     page: &mut Page,
-    tape: &mut [u8],
+    k: u64,
+    long: usize,
+    tape: Option<&[u8]>,
     memory: &mut [u8],
     area: &mut [u8],
     output: &mut [u8],
 ) -> fmt::Result {
-    for k in 1..=TAPES {
-        match take_tape(tape) {
-            Ok(Some(long)) => {
-                writeln!(page, "tape {k} {long}")?;
-                match tape.get(..long) {
-                    Some(whole) => put_turns(page, whole, memory, area, output)?,
-                    None => last_line(page, b"bad", 0),
-                }
-            }
-            Ok(None) => break,
-            Err(Cut) => {
-                cut(page);
-                break;
-            }
+    writeln!(page, "tape {k} {long}")?;
+    match tape {
+        Some(whole) => put_turns(page, whole, memory, area, output),
+        None => {
+            last_line(page, b"bad", 0);
+            Ok(())
         }
     }
-    text::flush(page);
-    Ok(())
+}
+
+// Tape `k`, where there is one.
+fn turn(
+    page: &mut Page,
+    k: u64,
+    tape: &mut [u8],
+    memory: &mut [u8],
+    area: &mut [u8],
+    output: &mut [u8],
+) -> Result<bool, Cut> {
+    let Some(long) = take_tape(tape)? else {
+        return Ok(false);
+    };
+    let _ = put_tape(page, k, long, tape.get(..long), memory, area, output);
+    Ok(true)
 }
 
 fn main() {
@@ -49,6 +53,7 @@ fn main() {
     let mut area = [0u8; LARGEST_AREA];
     let mut output = [0u8; MOST_SAMPLES + SPARE];
     let mut room = io::large_buffer();
-    let mut page = Page::begun(&mut room, 0);
-    let _ = put_tapes(&mut page, &mut tape, &mut memory, &mut area, &mut output);
+    play(&mut Page::begun(&mut room, 0), |page, k| {
+        turn(page, k, &mut tape, &mut memory, &mut area, &mut output)
+    });
 }

@@ -60,6 +60,15 @@ pub fn room<const N: usize>() -> [u8; N] {
     [0; N]
 }
 
+// Each byte of a buffer by its place.
+pub fn fill_by<F: Fn(usize) -> u8>(buffer: &mut [u8], byte: F)
+    requires { F.IsAlwaysCallable byte }
+{
+    for (i, x) in buffer.iter_mut().enumerate() {
+        *x = byte(i);
+    }
+}
+
 // A buffer that shows what is written to it later.
 pub fn fill(out: &mut [u8]) {
     out.fill(0xA5);

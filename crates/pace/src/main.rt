@@ -1,20 +1,20 @@
 // Long transactions and gatherings, over and over on the same buffers, so that their time can be taken from outside:
-// `pace read 4 65535 200 10` clocks a read of 65,535 clocks on four wires 200 times on a chip of n = 10, `pace read 4 65535 200 10
-// 16` does so in chunks of 16 clocks, and `pace gather 4 65535 200` gathers so many driven samples. One line tells the clocks of all calls that were answered 0, and digests of what
-// the last one left. The second program prints the same.
+// `pace read 4 65535 200 10` clocks a read of 65,535 clocks on four wires 200 times on a chip of n = 10,
+// `pace read 4 65535 200 10 16` does so in chunks of 16 clocks, and `pace gather 4 65535 200` gathers so many driven
+// samples. One line tells the clocks of all calls that were answered 0, and digests of what the last one left. The second
+// program prints the same.
 #![tactic(auto)]
 
-use bench_columns::{digest_column, room};
+use bench_columns::{digest_column, fill_by, room};
 use digits::number_in;
-use pace_calls::{Asked, What, answered, build, chip, fill, is_clocked, total};
+use pace_calls::{Asked, What, answered, build, byte_at, chip, is_clocked, total};
 use parts::{LARGEST_AREA, LARGEST_MEMORY, Part};
 use places::memory_size;
-use record::mode_wires;
 use std::env::Env;
 use std::fmt;
 use std::fmt::Write;
 use text::{Page, flush};
-use units::Clocks;
+use units::{Clocks, Wires};
 use wires::level;
 
 fn what_in(word: &[u8]) -> Option<What> {
@@ -39,8 +39,17 @@ fn number_at(rt: &impl Env, i: usize, buffer: &mut [u8], most: u32) -> Option<u3
     number_in(word_at(rt, i, buffer), 10, most)
 }
 
-fn byte_at(rt: &impl Env, i: usize, buffer: &mut [u8], most: u8) -> Option<u8> {
+fn small_at(rt: &impl Env, i: usize, buffer: &mut [u8], most: u8) -> Option<u8> {
     u8::try_from(number_at(rt, i, buffer, u32::from(most))?).ok()
+}
+
+fn wires_at(rt: &impl Env, i: usize, buffer: &mut [u8]) -> Option<Wires> {
+    match number_at(rt, i, buffer, 4)? {
+        1 => Some(Wires::One),
+        2 => Some(Wires::Two),
+        4 => Some(Wires::Four),
+        _ => None,
+    }
 }
 
 // The clocks of the longest run.
@@ -48,23 +57,22 @@ fn most_clocks() -> u32 {
     Clocks::longest().in_clocks() as u32
 }
 
-// What the command line asks for. Repeats and n are 0 where they are missing, and so is the clocks of a chunk, which is none then.
+// What the command line asks for. Repeats and n that are missing, or are no such numbers, are 0: then there is no call, and no chip
+// to clock. Without the clocks of a chunk each transaction comes in one call.
 fn hear(rt: &impl Env, buffer: &mut [u8]) -> Option<Asked> {
     Some(Asked {
         what: what_in(word_at(rt, 1, buffer))?,
-        wires: byte_at(rt, 2, buffer, 4)?,
+        wires: wires_at(rt, 2, buffer)?,
         clocks: number_at(rt, 3, buffer, most_clocks())?,
         repeats: number_at(rt, 4, buffer, 1000000).unwrap_or(0),
-        n: byte_at(rt, 5, buffer, Part::M.most()).unwrap_or(0),
+        n: small_at(rt, 5, buffer, Part::M.most()).unwrap_or(0),
         chunk: number_at(rt, 6, buffer, most_clocks()).map(|n| n as usize),
     })
 }
 
 // Whether there is such a run: a write needs some clocks behind its address.
 fn is_whole(a: Asked) -> bool {
-    matches!(a.wires, 1 | 2 | 4)
-        && 64 <= a.clocks
-        && (a.what == What::Gather || Part::M.least() <= a.n)
+    64 <= a.clocks && (a.what == What::Gather || Part::M.least() <= a.n)
 }
 
 // The line of a run: its clocks, and digests of what was driven or gathered, and of the memory.
@@ -83,9 +91,8 @@ fn tell(clocks: u64, left: &[u8], memory: &[u8]) {
 }
 
 fn gather(a: Asked, driven: &mut [u8], bytes: &mut [u8]) {
-    let w = mode_wires(a.wires);
-    fill(driven, |x| level(x, w));
-    let done = answered(a.repeats, || host::gather(a.wires, driven, bytes).is_ok());
+    fill_by(driven, |i| level(byte_at(i), a.wires));
+    let done = answered(a.repeats, || host::gather(a.mode(), driven, bytes).is_ok());
     tell(total(done, a.clocks), bytes, b"");
 }
 
@@ -94,11 +101,11 @@ fn clock(a: Asked, memory: &mut [u8], samples: &mut [u8], output: &mut [u8]) {
     let d = chip(a);
     let mut written = io::large_buffer();
     let mut room = [0; LARGEST_AREA];
-    let Some(area) = room.get_mut(..Part::of(d.make.part).area().in_bytes()) else {
+    let Some(area) = room.get_mut(..a.part().area().in_bytes()) else {
         return;
     };
-    fill(memory, |x| x);
-    build(a, d.make.part, &mut written, samples);
+    fill_by(memory, |i| byte_at(i));
+    build(a, &mut written, samples);
     let done = answered(a.repeats, || {
         is_clocked(d, a.chunk, memory, area, samples, output)
     });

@@ -3,10 +3,11 @@
 
 ghost use Rattle.std.specs.Prelude.{◌<◌, ◌≤◌};
 
+use bench_columns::fill_by;
 use host_order::Order;
-use parts::{Part, PartM, PartP};
-use record::{Answer, Device, Make, mode_wires};
-use units::{Bytes, Clocks, bytes_to_clocks, clocks_to_bytes};
+use parts::Part;
+use record::{Answer, Device, Make};
+use units::{Bytes, Clocks, Wires, bytes_to_clocks, clocks_to_bytes};
 
 // What is done over and over.
 #[derive(Clone, Copy, PartialEq, Eq)]
@@ -20,25 +21,36 @@ pub enum What {
 #[derive(Clone, Copy)]
 pub struct Asked {
     pub what: What,
-    pub wires: u8,
+    pub wires: Wires,
     pub clocks: u32,
     pub repeats: u32,
     pub n: u8,
     pub chunk: Option<usize>,
 }
 
-// Bytes that differ from their neighbours, each put as `shown` shows it.
-pub fn fill<F: Fn(u8) -> u8>(b: &mut [u8], shown: F)
-    requires { F.IsAlwaysCallable shown }
-{
-    for (i, x) in b.iter_mut().enumerate() {
-        *x = shown((i % 251) as u8);
+impl Asked {
+    // The number of the wires, as the record's mode and the host half have it.
+    pub fn mode(self) -> u8 {
+        match self.wires {
+            Wires::One => 1,
+            Wires::Two => 2,
+            Wires::Four => 4,
+        }
+    }
+
+    // Part P is the one that reads on four wires.
+    pub fn part(self) -> Part {
+        if self.what == What::Read && self.wires == Wires::Four {
+            Part::P
+        } else {
+            Part::M
+        }
     }
 }
 
-// Part P is the one that reads on four wires.
-fn is_psram(a: Asked) -> bool {
-    a.what == What::Read && a.wires == 4
+// Bytes that differ from their neighbours, by their place.
+pub fn byte_at(i: usize) -> u8 {
+    (i % 251) as u8
 }
 
 // Memory is read on one wire and on four. On two wires there is only the read of a register, of eight bytes, and its
@@ -46,33 +58,26 @@ fn is_psram(a: Asked) -> bool {
 fn opcode(a: Asked) -> u8 {
     match (a.what, a.wires) {
         (What::Write, _) => 0x02,
-        (_, 1) => 0x03,
-        (_, 2) => 0x4C,
-        _ => 0x0B,
+        (_, Wires::One) => 0x03,
+        (_, Wires::Two) => 0x4C,
+        (_, Wires::Four) => 0x0B,
     }
 }
 
-// A fresh chip in the mode of the burst. Part M as it leaves the factory asks for no latch.
+// A fresh chip in the mode of the burst. Part M as it leaves the factory asks for no latch; part P has no unique number.
 pub fn chip(a: Asked) -> Device {
-    if is_psram(a) {
-        let psram = Make {
-            part: PartP::NUMBER,
-            n: a.n,
-        };
-        return Device::fresh(psram, [0; 8], [0; 8]).in_mode(4);
-    }
-    let mram = Make {
-        part: PartM::NUMBER,
+    let make = Make {
+        part: a.part().into(),
         n: a.n,
     };
-    Device::fresh(mram, [0; 8], [1, 2, 3, 4, 5, 6, 7, 8]).in_mode(a.wires)
+    Device::fresh(make, [0; 8], [1, 2, 3, 4, 5, 6, 7, 8]).in_mode(a.mode())
 }
 
-fn order(a: Asked, part: u8) -> Order {
+fn order(a: Asked) -> Order {
     Order {
-        part,
+        part: a.part().into(),
         opcode: opcode(a),
-        mode: a.wires,
+        mode: a.mode(),
         address: 0x123,
         cr2: 8,
         wanted: Bytes::one(),
@@ -84,25 +89,26 @@ const FRONT: usize = 4;
 
 // The bytes of a write that so many clocks hold beside opcode and address; a read has none.
 fn bytes_in(a: Asked) -> Bytes {
-    let w = mode_wires(a.wires);
     let all = Clocks::stated(a.clocks as usize);
-    let front = bytes_to_clocks(Bytes::stated(FRONT), w);
-    if a.what != What::Write || front > all {
-        return Bytes::none();
+    let front = bytes_to_clocks(Bytes::stated(FRONT), a.wires);
+    if a.what == What::Write && front <= all {
+        clocks_to_bytes(all - front, a.wires)
+    } else {
+        Bytes::none()
     }
-    clocks_to_bytes(all - front, w)
 }
 
 // The samples of the command. Behind what the host builds all wires stay low: a read goes on, and a write has its last byte
 // cut.
-pub fn build(a: Asked, part: u8, written: &mut [u8], samples: &mut [u8]) {
-    fill(written, |x| x);
+pub fn build(a: Asked, written: &mut [u8], samples: &mut [u8]) {
+    fill_by(written, |i| byte_at(i));
     if let Some(written) = written.get(..bytes_in(a).in_bytes()) {
-        let _ = host::build(order(a, part), written, samples);
+        let _ = host::build(order(a), written, samples);
     }
 }
 
-// One transaction in chunks, and its answer.
+// One transaction in chunks, and its answer. A record and what is lent with it come one by one, here and below, as the calls of the
+// device have them.
 fn chunked(
     d: Device,
     chunk: usize,
@@ -136,7 +142,8 @@ pub fn is_clocked(
     answer == Answer::Done
 }
 
-// How many of so many of the same call were answered 0.
+// How many of so many of the same call were answered 0. They are counted by hand: with `filter(|_| is_done()).count()`, over a
+// closure that changes what it holds, the proof does not close.
 pub fn answered<F: FnMut() -> bool>(repeats: u32, mut is_done: F) -> u32
     requires { F.IsAlwaysCallable is_done }
     ensures { result ≤ repeats }
