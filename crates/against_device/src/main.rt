@@ -24,7 +24,7 @@ fn turn(page: &mut Page, k: u64, left: &mut Option<Left>, lent: Lent) -> Result<
     }
     take(t.samples)?;
     let (r, t) = called(p, t)?;
-    let _ = put_line(page, k, r, &t);
+    put_line(page, k, r, &t);
     *left = Some(from);
     Ok(true)
 }

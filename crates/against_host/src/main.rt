@@ -62,13 +62,13 @@ fn called(c: Call, input: &[u8], buffer: &mut [u8]) -> Result<usize, Answer> {
 }
 
 // The line of request `k`, on a buffer of its room.
-fn put_line(page: &mut Page, k: u64, c: Call, input: &[u8], buffer: &mut [u8]) -> fmt::Result {
+fn put_line(page: &mut Page, k: u64, c: Call, input: &[u8], buffer: &mut [u8]) {
     fill(buffer);
     let made = called(c, input, buffer);
     let answer = made.err().unwrap_or(Answer::Done);
-    write!(page, "{k} {} {}", u8::from(answer), made.unwrap_or(0))?;
-    digest_column(page, buffer)?;
-    writeln!(page)
+    write!(page, "{k} {} {}", u8::from(answer), made.unwrap_or(0));
+    digest_column(page, buffer);
+    writeln!(page);
 }
 
 // Request `k`, where there is one, with its data, on a buffer of its room.
@@ -80,7 +80,7 @@ fn turn(page: &mut Page, k: u64, input: &mut [u8], buffer: &mut [u8]) -> Result<
     let input = input.get_mut(..r.long).ok_or(Cut)?;
     let buffer = buffer.get_mut(..r.room).ok_or(Cut)?;
     take(input)?;
-    let _ = put_line(page, k, r.call, input, buffer);
+    put_line(page, k, r.call, input, buffer);
     Ok(true)
 }
 

@@ -267,19 +267,20 @@ pub fn called<'a>(p: Probe, mut t: Lent<'a>) -> Result<(Reply, Lent<'a>), Cut> {
 // ---- its line
 
 // All bytes of the image, or a dash.
-fn image_column(page: &mut Page, image: &[u8]) -> fmt::Result {
+fn image_column(page: &mut Page, image: &[u8]) {
     if image.is_empty() {
-        return write!(page, " -");
+        write!(page, " -");
+        return;
     }
     page.put(b' ');
-    put_bytes(page, image)
+    put_bytes(page, image);
 }
 
-pub fn put_line(page: &mut Page, k: u64, r: Reply, t: &Lent) -> fmt::Result {
-    call_columns(page, k, r.answer, r.counts)?;
-    image_column(page, t.image)?;
-    digest_column(page, t.memory)?;
-    digest_column(page, t.area)?;
-    digest_column(page, t.output)?;
-    writeln!(page)
+pub fn put_line(page: &mut Page, k: u64, r: Reply, t: &Lent) {
+    call_columns(page, k, r.answer, r.counts);
+    image_column(page, t.image);
+    digest_column(page, t.memory);
+    digest_column(page, t.area);
+    digest_column(page, t.output);
+    writeln!(page);
 }

@@ -15,45 +15,37 @@ use text::Page;
 // The bytes of output past the samples, which a call is to leave alone.
 pub const SPARE: usize = 3;
 
-fn output_of(page: &mut Page, e: Entry, answer: Answer, out: &[u8], clocked: &[u8]) -> fmt::Result {
+fn output_of(page: &mut Page, e: Entry, answer: Answer, out: &[u8], clocked: &[u8]) {
     match e {
         Entry::Transaction => output_columns(page, answer, out, clocked),
         Entry::PowerCycle | Entry::Fresh(_) => page.write_str(" - - -"),
     }
 }
 
-fn outcome(page: &mut Page, k: u64, o: Outcome) -> fmt::Result {
-    call_columns(page, k, o.answer, o.counts)?;
-    chip(page, o.device)
+fn outcome(page: &mut Page, k: u64, o: Outcome) {
+    call_columns(page, k, o.answer, o.counts);
+    chip(page, o.device);
 }
 
 // Digests of the chip's part of memory and area.
-fn stores(page: &mut Page, s: Socket, memory: &[u8], area: &[u8]) -> fmt::Result {
+fn stores(page: &mut Page, s: Socket, memory: &[u8], area: &[u8]) {
     let memory = memory.get(..s.memory.in_bytes());
     let area = area.get(..s.area.in_bytes());
     let (Some(memory), Some(area)) = (memory, area) else {
-        return Ok(());
+        return;
     };
-    digest_column(page, memory)?;
-    digest_column(page, area)
+    digest_column(page, memory);
+    digest_column(page, area);
 }
 
 // The output comes with the clocks of the record and is cut here: in the loop below, a part of what is lent for one turn has no lifetime
 // of its own.
-fn line(
-    page: &mut Page,
-    k: u64,
-    t: Turn,
-    long: usize,
-    memory: &[u8],
-    area: &[u8],
-    out: &[u8],
-) -> fmt::Result {
-    outcome(page, k, t.outcome)?;
-    stores(page, t.chip.socket, memory, area)?;
+fn line(page: &mut Page, k: u64, t: Turn, long: usize, memory: &[u8], area: &[u8], out: &[u8]) {
+    outcome(page, k, t.outcome);
+    stores(page, t.chip.socket, memory, area);
     let clocked = out.get(..long).unwrap_or(&[]);
-    output_of(page, t.entry, t.outcome.answer, out, clocked)?;
-    writeln!(page)
+    output_of(page, t.entry, t.outcome.answer, out, clocked);
+    writeln!(page);
 }
 
 // Every record, to the end or to one that is bad. A payload longer than any transaction has is a bad record; the output that is
@@ -66,7 +58,7 @@ pub fn put_turns(
     memory: &mut [u8],
     area: &mut [u8],
     output: &mut [u8],
-) -> fmt::Result {
+) {
     let mut session = tape_session::start();
     for before in 0..TURNS {
         let long = Reader::opened(tape, session.at).payload().len();
@@ -80,7 +72,7 @@ pub fn put_turns(
         fill(out);
         match tape_session::advance(session, tape, memory, area, out) {
             Ok(turn) => {
-                line(page, before + 1, turn, long, memory, area, out)?;
+                line(page, before + 1, turn, long, memory, area, out);
                 text::flush_full(page);
                 session = turn.session;
             }
@@ -91,5 +83,4 @@ pub fn put_turns(
         }
     }
     text::flush_full(page);
-    Ok(())
 }

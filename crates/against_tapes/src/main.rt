@@ -20,13 +20,12 @@ fn put_tape(
     memory: &mut [u8],
     area: &mut [u8],
     output: &mut [u8],
-) -> fmt::Result {
-    writeln!(page, "tape {k} {long}")?;
+) {
+    writeln!(page, "tape {k} {long}");
     match tape {
         Some(whole) => put_turns(page, whole, memory, area, output),
         None => {
             last_line(page, b"bad", 0);
-            Ok(())
         }
     }
 }
@@ -43,7 +42,7 @@ fn turn(
     let Some(long) = take_tape(tape)? else {
         return Ok(false);
     };
-    let _ = put_tape(page, k, long, tape.get(..long), memory, area, output);
+    put_tape(page, k, long, tape.get(..long), memory, area, output);
     Ok(true)
 }
 

@@ -50,8 +50,8 @@ fn digest(bytes: &[u8]) -> u64 {
 }
 
 // The digest of bytes, behind a space.
-pub fn digest_column(page: &mut Page, bytes: &[u8]) -> fmt::Result {
-    write!(page, " {:08X}", digest(bytes))
+pub fn digest_column(page: &mut Page, bytes: &[u8]) {
+    write!(page, " {:08X}", digest(bytes));
 }
 
 // A buffer of any length. It comes out of a function, so that its length is known by its type alone: a large array that is written

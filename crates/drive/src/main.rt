@@ -48,22 +48,21 @@ fn put_record(page: &mut Page, kind: Kind, payload: &[u8]) {
 
 // The records of a tape, with a fresh chip before the transaction where one is asked for. A transaction on it is shorter
 // than others may be.
-fn write_tape(page: &mut Page, a: Asked, samples: &[u8]) -> fmt::Result {
+fn write_tape(page: &mut Page, a: Asked, samples: &[u8]) {
     if MOST_SAMPLES < samples.len() {
-        put_long(page, Clocks::of_samples(samples))?;
+        put_long(page, Clocks::of_samples(samples));
         flush_to(2, page);
-        return Ok(());
+        return;
     }
     if let Some(n) = a.fresh {
         put_record(page, Kind::Fresh, &[a.order.part, n]);
     }
     put_record(page, Kind::Transaction, samples);
     flush(page);
-    Ok(())
 }
 
 // What was built, in words or as a tape.
-fn tell(page: &mut Page, a: Asked, written: &[u8], samples: &[u8]) -> fmt::Result {
+fn tell(page: &mut Page, a: Asked, written: &[u8], samples: &[u8]) {
     if a.tape {
         write_tape(page, a, samples)
     } else {
@@ -71,33 +70,25 @@ fn tell(page: &mut Page, a: Asked, written: &[u8], samples: &[u8]) -> fmt::Resul
     }
 }
 
-fn build(page: &mut Page, a: Asked, written: &[u8], samples: &mut [u8]) -> fmt::Result {
+fn build(page: &mut Page, a: Asked, written: &[u8], samples: &mut [u8]) {
     match host::build(a.order, written, samples) {
         Ok(clocks) => {
             let built = samples.get(..clocks.in_clocks()).unwrap_or(&[]);
             tell(page, a, written, built)
         }
         Err(answer) => {
-            put_refusal(page, a.order, answer)?;
+            put_refusal(page, a.order, answer);
             flush_to(2, page);
-            Ok(())
         }
     }
 }
 
-fn drive(
-    rt: &impl Env,
-    page: &mut Page,
-    word: &mut [u8],
-    written: &mut Page,
-    samples: &mut [u8],
-) -> fmt::Result {
+fn drive(rt: &impl Env, page: &mut Page, word: &mut [u8], written: &mut Page, samples: &mut [u8]) {
     match hear_all(rt, word, written) {
         Ok(asked) => build(page, asked, written.written(), samples),
         Err(fault) => {
-            put_wrong(page, fault, word)?;
+            put_wrong(page, fault, word);
             flush_to(2, page);
-            Ok(())
         }
     }
 }
@@ -109,5 +100,5 @@ fn main(rt: HostRuntime) {
     let mut samples = io::large_buffer();
     let mut page = Page::begun(&mut text, 0);
     let mut written = Page::begun(&mut bytes, 0);
-    let _ = drive(&rt, &mut page, &mut word, &mut written, &mut samples);
+    drive(&rt, &mut page, &mut word, &mut written, &mut samples);
 }

@@ -41,32 +41,31 @@ fn chip_for(o: Order) -> Device {
 }
 
 // The first line, and the rows on the clocks.
-fn put_rows(page: &mut Page, v: View, c: Counts, all: Clocks) -> fmt::Result {
-    writeln!(page, "{}, {}", v.setting.part, Count::of_clocks(all))?;
-    put_counts(page, v, c)
+fn put_rows(page: &mut Page, v: View, c: Counts, all: Clocks) {
+    writeln!(page, "{}, {}", v.setting.part, Count::of_clocks(all));
+    put_counts(page, v, c);
 }
 
 // The samples of a phase behind a space, a digit each, where it has any.
-fn put_phase(page: &mut Page, samples: &[u8]) -> fmt::Result {
+fn put_phase(page: &mut Page, samples: &[u8]) {
     if samples.is_empty() {
-        return Ok(());
+        return;
     }
     page.put(b' ');
-    put_each(page, samples, 1)
+    put_each(page, samples, 1);
 }
 
 // All samples. The data alone may fill the page.
-fn put_samples(page: &mut Page, samples: &[u8], c: Counts) -> fmt::Result {
+fn put_samples(page: &mut Page, samples: &[u8], c: Counts) {
     let phases = phases_of(c, samples);
-    page.write_str("  samples  ")?;
-    put_phase(page, phases.command)?;
-    put_phase(page, phases.address)?;
-    put_phase(page, phases.wait)?;
+    page.write_str("  samples  ");
+    put_phase(page, phases.command);
+    put_phase(page, phases.address);
+    put_phase(page, phases.wait);
     flush(page);
-    put_phase(page, phases.body)?;
-    writeln!(page)?;
+    put_phase(page, phases.body);
+    writeln!(page);
     flush(page);
-    Ok(())
 }
 
 // The bytes that a driver sends: the opcode, the address where there is one, the high byte first, and what it writes.
@@ -82,21 +81,20 @@ fn put_sent(bytes: &mut Page, v: View, b: Body, written: &[u8]) {
     }
 }
 
-fn put_bytes(page: &mut Page, v: View, b: Body, written: &[u8]) -> fmt::Result {
+fn put_bytes(page: &mut Page, v: View, b: Body, written: &[u8]) {
     let mut buffer = io::large_buffer();
     let mut bytes = Page::begun(&mut buffer, 0);
     put_sent(&mut bytes, v, b, written);
-    put_row(page, "  bytes     ", bytes.written())
+    put_row(page, "  bytes     ", bytes.written());
 }
 
 // Writes it all to standard output.
-pub fn show(page: &mut Page, o: Order, all: Clocks, written: &[u8], samples: &[u8]) -> fmt::Result {
+pub fn show(page: &mut Page, o: Order, all: Clocks, written: &[u8], samples: &[u8]) {
     let k = kind_asked(o);
     let c = counts_of(o, k, all);
     let v = view_of(chip_for(o), c, samples);
-    put_rows(page, v, c, all)?;
-    put_samples(page, samples, c)?;
-    put_bytes(page, v, body_asked(o, k), written)?;
+    put_rows(page, v, c, all);
+    put_samples(page, samples, c);
+    put_bytes(page, v, body_asked(o, k), written);
     flush(page);
-    Ok(())
 }

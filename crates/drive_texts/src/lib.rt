@@ -25,10 +25,10 @@ const USAGE: &str =
     \x20 --fresh N    before it a record with a fresh chip of 2^N bytes, N from 10 to 15\n";
 
 // What was due, and the word that is not that, or that there is none.
-fn put_fault(page: &mut Page, fault: Fault, word: &[u8]) -> fmt::Result {
+fn put_fault(page: &mut Page, fault: Fault, word: &[u8]) {
     match fault {
         Fault::Wrong(due, long) => {
-            write!(page, "{due}, and not \"")?;
+            write!(page, "{due}, and not \"");
             page.put_all(word.get(..long).unwrap_or(&[]));
             writeln!(page, "\".")
         }
@@ -38,10 +38,10 @@ fn put_fault(page: &mut Page, fault: Fault, word: &[u8]) -> fmt::Result {
 }
 
 // That, and how a command is written. The wrong word is at the front of `word`.
-pub fn put_wrong(page: &mut Page, fault: Fault, word: &[u8]) -> fmt::Result {
-    page.write_str("drive: ")?;
-    put_fault(page, fault, word)?;
-    page.write_str(USAGE)
+pub fn put_wrong(page: &mut Page, fault: Fault, word: &[u8]) {
+    page.write_str("drive: ");
+    put_fault(page, fault, word);
+    page.write_str(USAGE);
 }
 
 // ---- refusals
@@ -75,7 +75,7 @@ fn size_of(b: Body) -> Option<Bytes> {
     }
 }
 
-fn put_count(page: &mut Page, text: &str, b: Body) -> fmt::Result {
+fn put_count(page: &mut Page, text: &str, b: Body) {
     match size_of(b) {
         Some(size) => writeln!(page, "{text} {}.", Count::of_bytes(size)),
         None => writeln!(page, "{text}."),
@@ -83,17 +83,17 @@ fn put_count(page: &mut Page, text: &str, b: Body) -> fmt::Result {
 }
 
 // An opcode that the part has not in this mode.
-fn put_unknown(page: &mut Page, o: Order) -> fmt::Result {
+fn put_unknown(page: &mut Page, o: Order) {
     writeln!(
         page,
         "{} has no command {:02X} on {}.",
         Part::of(o.part),
         o.opcode,
         mode_wires(o.mode)
-    )
+    );
 }
 
-fn put_reason(page: &mut Page, o: Order, a: Answer) -> fmt::Result {
+fn put_reason(page: &mut Page, o: Order, a: Answer) {
     let b = body_asked(o, kind_asked(o));
     match a {
         Answer::Size => page.write_str(
@@ -108,22 +108,22 @@ fn put_reason(page: &mut Page, o: Order, a: Answer) -> fmt::Result {
             page.write_str("the wait of this command has four bits, --wait is 0F at most.\n")
         }
         Answer::Long => put_count(page, many(b), b),
-        _ => Ok(()),
+        _ => {}
     }
 }
 
 // Why a command is refused.
-pub fn put_refusal(page: &mut Page, o: Order, a: Answer) -> fmt::Result {
-    page.write_str("drive: refused, answer ")?;
-    put_named(page, a)?;
-    put_reason(page, o, a)
+pub fn put_refusal(page: &mut Page, o: Order, a: Answer) {
+    page.write_str("drive: refused, answer ");
+    put_named(page, a);
+    put_reason(page, o, a);
 }
 
 // More samples than a record of the tape has.
-pub fn put_long(page: &mut Page, c: Clocks) -> fmt::Result {
+pub fn put_long(page: &mut Page, c: Clocks) {
     writeln!(
         page,
         "drive: a transaction on a tape has at most 4,096 samples, and this has {}.",
         c.in_clocks()
-    )
+    );
 }

@@ -75,39 +75,39 @@ const FIELDS: [(Field, &str, Option<&str>); 27] = [
 ];
 
 // A row of the table.
-fn page_row(page: &mut Page, f: Field, name: &str, word: Option<&str>) -> fmt::Result {
-    write!(page, "| {} | {} | {name} |", offset_of(f), size_of(f))?;
+fn page_row(page: &mut Page, f: Field, name: &str, word: Option<&str>) {
+    write!(page, "| {} | {} | {name} |", offset_of(f), size_of(f));
     if let Some(word) = word {
-        write!(page, " `TONDRAVIK_AT_{word}`")?;
+        write!(page, " `TONDRAVIK_AT_{word}`");
     }
-    writeln!(page, " |")
+    writeln!(page, " |");
 }
 
 // A line of the header.
-fn header_row(page: &mut Page, f: Field, word: &str) -> fmt::Result {
-    writeln!(page, "    TONDRAVIK_AT_{word} = {},", offset_of(f))
+fn header_row(page: &mut Page, f: Field, word: &str) {
+    writeln!(page, "    TONDRAVIK_AT_{word} = {},", offset_of(f));
 }
 
 // The table, and the lines for the header; the number of all bytes is the last. The page has room for all of it.
-fn put_tables(page: &mut Page) -> fmt::Result {
+fn put_tables(page: &mut Page) {
     write!(
         page,
         "| offset | bytes | field | in C |\n|---|---|---|---|\n"
-    )?;
+    );
     for (f, name, word) in FIELDS {
-        page_row(page, f, name, word)?;
+        page_row(page, f, name, word);
     }
     for (f, _, word) in FIELDS {
         if let Some(word) = word {
-            header_row(page, f, word)?;
+            header_row(page, f, word);
         }
     }
-    writeln!(page, "    TONDRAVIK_IMAGE = {IMAGE}")
+    writeln!(page, "    TONDRAVIK_IMAGE = {IMAGE}");
 }
 
 fn main() {
     let mut buffer = [0; 4096];
     let mut page = Page::begun(&mut buffer, 0);
-    let _ = put_tables(&mut page);
+    put_tables(&mut page);
     flush(&mut page);
 }

@@ -13,14 +13,14 @@ use text::Page;
 const MOST_SAMPLE: u8 = 15;
 
 // An answer by number and name.
-pub fn put_named(page: &mut Page, a: Answer) -> fmt::Result {
-    write!(page, "{} {a}: ", u8::from(a))
+pub fn put_named(page: &mut Page, a: Answer) {
+    write!(page, "{} {a}: ", u8::from(a));
 }
 
 // The front of the line on it.
-pub fn put_answer(page: &mut Page, a: Answer) -> fmt::Result {
-    page.write_str("  answer    ")?;
-    put_named(page, a)
+pub fn put_answer(page: &mut Page, a: Answer) {
+    page.write_str("  answer    ");
+    put_named(page, a);
 }
 
 // What a write is short of.
@@ -76,15 +76,15 @@ fn outcome(k: Kind) -> &'static str {
 }
 
 // Which sample no four wires carry.
-fn put_sample(page: &mut Page, samples: &[u8]) -> fmt::Result {
+fn put_sample(page: &mut Page, samples: &[u8]) {
     let Some((i, x)) = samples.iter().enumerate().find(|(_, x)| MOST_SAMPLE < **x) else {
-        return Ok(());
+        return;
     };
     writeln!(
         page,
         "clock {} has the sample {x:02X}, and four wires carry no more than {MOST_SAMPLE:02X}.",
         i + 1
-    )
+    );
 }
 
 // The rule that decides a transaction, where it names no sample.
@@ -110,7 +110,7 @@ fn rule(v: View, a: Answer) -> &'static str {
 }
 
 // The rule that decides a transaction.
-pub fn put_rule(page: &mut Page, v: View, samples: &[u8], a: Answer) -> fmt::Result {
+pub fn put_rule(page: &mut Page, v: View, samples: &[u8], a: Answer) {
     if a == Answer::Sample {
         put_sample(page, samples)
     } else {

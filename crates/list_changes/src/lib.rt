@@ -14,64 +14,52 @@ const LINES: u64 = 8;
 const COUNTED: u64 = 1000000;
 
 // A line on what changed, where it did. A name has twenty columns.
-fn put_change<T: Copy + PartialEq + Display>(
-    page: &mut Page,
-    name: &str,
-    old: T,
-    new: T,
-) -> fmt::Result {
+fn put_change<T: Copy + PartialEq + Display>(page: &mut Page, name: &str, old: T, new: T) {
     if old == new {
-        return Ok(());
+        return;
     }
-    writeln!(page, "  changed   {name:20}{old} -> {new}")
+    writeln!(page, "  changed   {name:20}{old} -> {new}");
 }
 
 // A register.
-fn put_register(page: &mut Page, name: &str, old: u8, new: u8) -> fmt::Result {
-    put_change(page, name, Cells(&[old]), Cells(&[new]))
+fn put_register(page: &mut Page, name: &str, old: u8, new: u8) {
+    put_change(page, name, Cells(&[old]), Cells(&[new]));
 }
 
-fn put_registers(page: &mut Page, old: Registers, new: Registers) -> fmt::Result {
-    put_register(page, "status", old.status, new.status)?;
-    put_register(page, "area protection", old.protection, new.protection)?;
-    put_register(page, "configuration 1", old.cr1, new.cr1)?;
-    put_register(page, "configuration 2", old.cr2, new.cr2)?;
-    put_register(page, "configuration 3", old.cr3, new.cr3)?;
-    put_register(page, "configuration 4", old.cr4, new.cr4)?;
-    put_register(page, "mode register MR0", old.mr0, new.mr0)
+fn put_registers(page: &mut Page, old: Registers, new: Registers) {
+    put_register(page, "status", old.status, new.status);
+    put_register(page, "area protection", old.protection, new.protection);
+    put_register(page, "configuration 1", old.cr1, new.cr1);
+    put_register(page, "configuration 2", old.cr2, new.cr2);
+    put_register(page, "configuration 3", old.cr3, new.cr3);
+    put_register(page, "configuration 4", old.cr4, new.cr4);
+    put_register(page, "mode register MR0", old.mr0, new.mr0);
 }
 
 // A flag that went up or down, with what each is called.
-fn put_flag(
-    page: &mut Page,
-    name: &str,
-    down: &str,
-    up: &str,
-    old: bool,
-    new: bool,
-) -> fmt::Result {
+fn put_flag(page: &mut Page, name: &str, down: &str, up: &str, old: bool, new: bool) {
     let word = |flag: bool| if flag { up } else { down };
-    put_change(page, name, word(old), word(new))
+    put_change(page, name, word(old), word(new));
 }
 
-fn put_volatile(page: &mut Page, old: Volatile, new: Volatile) -> fmt::Result {
-    put_change(page, "bus mode", mode_wires(old.mode), mode_wires(new.mode))?;
-    put_flag(page, "write latch", "down", "up", old.latch, new.latch)?;
-    put_flag(page, "arming", "disarmed", "armed", old.armed, new.armed)?;
-    put_flag(page, "sleep", "awake", "asleep", old.asleep, new.asleep)?;
-    put_flag(page, "toggle", "off", "on", old.toggle, new.toggle)
+fn put_volatile(page: &mut Page, old: Volatile, new: Volatile) {
+    put_change(page, "bus mode", mode_wires(old.mode), mode_wires(new.mode));
+    put_flag(page, "write latch", "down", "up", old.latch, new.latch);
+    put_flag(page, "arming", "disarmed", "armed", old.armed, new.armed);
+    put_flag(page, "sleep", "awake", "asleep", old.asleep, new.asleep);
+    put_flag(page, "toggle", "off", "on", old.toggle, new.toggle);
 }
 
 // All of the record that changed.
-pub fn put_device(page: &mut Page, old: Device, new: Device) -> fmt::Result {
-    put_registers(page, old.registers, new.registers)?;
-    put_volatile(page, old.volatile, new.volatile)?;
+pub fn put_device(page: &mut Page, old: Device, new: Device) {
+    put_registers(page, old.registers, new.registers);
+    put_volatile(page, old.volatile, new.volatile);
     put_change(
         page,
         "serial number",
         Cells(&old.identity.serial),
         Cells(&new.identity.serial),
-    )
+    );
 }
 
 // The next number, up to the most that are counted.
@@ -81,7 +69,7 @@ pub fn following(count: u64) -> u64 {
 
 // The bytes that changed. A name has seven columns. The first eight have a line each, the others are counted: their number and the last of
 // them are kept while the lines are put, and a second pass over the bytes for them is no plainer.
-pub fn put_places(page: &mut Page, name: &str, old: &[u8], new: &[u8]) -> fmt::Result {
+pub fn put_places(page: &mut Page, name: &str, old: &[u8], new: &[u8]) {
     let mut count = 0;
     let mut last = 0;
     for (i, (x, y)) in old.iter().zip(new).enumerate() {
@@ -89,7 +77,7 @@ pub fn put_places(page: &mut Page, name: &str, old: &[u8], new: &[u8]) -> fmt::R
             continue;
         }
         if count < LINES {
-            writeln!(page, "  changed   {name:7}{i:06X}       {x:02X} -> {y:02X}")?;
+            writeln!(page, "  changed   {name:7}{i:06X}       {x:02X} -> {y:02X}");
         }
         count = following(count);
         last = i;
@@ -99,7 +87,6 @@ pub fn put_places(page: &mut Page, name: &str, old: &[u8], new: &[u8]) -> fmt::R
             page,
             "  changed   {name:7}and {} more up to {last:06X}",
             count - LINES
-        )?;
+        );
     }
-    Ok(())
 }

@@ -68,17 +68,17 @@ impl fmt::Display for Cells<'_> {
 }
 
 // A row of bytes behind a label of twelve columns. Of more than 32 it shows the first 32, and says how many it leaves out.
-pub fn put_row(page: &mut Page, label: &str, bytes: &[u8]) -> fmt::Result {
+pub fn put_row(page: &mut Page, label: &str, bytes: &[u8]) {
     if bytes.is_empty() {
-        return Ok(());
+        return;
     }
-    page.write_str(label)?;
+    page.write_str(label);
     for (i, line) in bytes.chunks(LINE).take(ROW / LINE).enumerate() {
         let fold = if i == 0 { "" } else { FOLD };
-        write!(page, "{fold}{}", Cells(line))?;
+        write!(page, "{fold}{}", Cells(line));
     }
     if ROW < bytes.len() {
-        write!(page, "{FOLD}and {} more", bytes.len() - ROW)?;
+        write!(page, "{FOLD}and {} more", bytes.len() - ROW);
     }
-    writeln!(page)
+    writeln!(page);
 }

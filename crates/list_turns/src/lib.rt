@@ -51,13 +51,13 @@ fn put_turn(
     before: &Stores,
     now: &Stores,
     output: &[u8],
-) -> fmt::Result {
+) {
     let after = Chip {
         device: t.outcome.device,
         ..t.chip
     };
     let (Some(old), Some(new)) = (before.state(t.chip), now.state(after)) else {
-        return Ok(());
+        return;
     };
     let played = Played {
         old,
@@ -66,8 +66,8 @@ fn put_turn(
         samples: r.payload(),
         output,
     };
-    put_head(page, k, r.at)?;
-    put_played(page, t.entry, played)
+    put_head(page, k, r.at);
+    put_played(page, t.entry, played);
 }
 
 // Every record, to the end or to one that is bad. `before` has room for the bytes as they were before a record. The loop is its own: it
@@ -78,19 +78,18 @@ pub fn put_turns(
     now: &mut Stores,
     before: &mut Stores,
     output: &mut [u8],
-) -> fmt::Result {
+) {
     let mut session = tape_session::start();
     for k in 0..TURNS {
         before.keep(now, session);
         match tape_session::advance(session, tape, now.memory, now.area, output) {
             Ok(turn) => {
                 let reader = Reader::opened(tape, session.at);
-                put_turn(page, k + 1, reader, turn, before, now, output)?;
+                put_turn(page, k + 1, reader, turn, before, now, output);
                 text::flush_full(page);
                 session = turn.session;
             }
             Err(why) => return put_last(page, k, why, tape, session.at),
         }
     }
-    Ok(())
 }

@@ -13,11 +13,11 @@ use text::Page;
 use units::Bytes;
 
 // The tape's own line.
-fn put_tape(page: &mut Page, tape: &[u8]) -> fmt::Result {
-    writeln!(page, "tape of {}", Count::of_bytes(Bytes::of_store(tape)))
+fn put_tape(page: &mut Page, tape: &[u8]) {
+    writeln!(page, "tape of {}", Count::of_bytes(Bytes::of_store(tape)));
 }
 
-fn list(tape: &[u8]) -> fmt::Result {
+fn list(tape: &[u8]) {
     let mut memory = [0u8; LARGEST_MEMORY];
     let mut area = [0u8; LARGEST_AREA];
     let mut output = io::buffer();
@@ -33,17 +33,16 @@ fn list(tape: &[u8]) -> fmt::Result {
         area: &mut area_before,
     };
     let mut page = Page::begun(&mut room, 0);
-    put_tape(&mut page, tape)?;
-    put_turns(&mut page, tape, &mut now, &mut before, &mut output)?;
+    put_tape(&mut page, tape);
+    put_turns(&mut page, tape, &mut now, &mut before, &mut output);
     text::flush(&mut page);
-    Ok(())
 }
 
 fn main(rt: HostRuntime) {
     let mut buffer = io::large_buffer();
     match tape_input::taken(&rt, &mut buffer) {
         Ok(tape) => {
-            let _ = list(tape);
+            list(tape);
         }
         Err(NoTape::TooLong) => {
             io::write_all(

@@ -76,17 +76,17 @@ fn is_whole(a: Asked) -> bool {
 }
 
 // The line of a run: its clocks, and digests of what was driven or gathered, and of the memory.
-fn put_line(page: &mut Page, clocks: u64, left: &[u8], memory: &[u8]) -> fmt::Result {
-    write!(page, "{clocks} clocks")?;
-    digest_column(page, left)?;
-    digest_column(page, memory)?;
-    writeln!(page)
+fn put_line(page: &mut Page, clocks: u64, left: &[u8], memory: &[u8]) {
+    write!(page, "{clocks} clocks");
+    digest_column(page, left);
+    digest_column(page, memory);
+    writeln!(page);
 }
 
 fn tell(clocks: u64, left: &[u8], memory: &[u8]) {
     let mut buffer = io::buffer();
     let mut page = Page::begun(&mut buffer, 0);
-    let _ = put_line(&mut page, clocks, left, memory);
+    put_line(&mut page, clocks, left, memory);
     flush(&mut page);
 }
 

@@ -26,30 +26,28 @@ fn kind_in(f: Family, opcode: u8) -> Option<Kind> {
 }
 
 // The bus modes that have it.
-fn put_modes(page: &mut Page, f: Family, opcode: u8) -> fmt::Result {
-    write!(page, " | ")?;
+fn put_modes(page: &mut Page, f: Family, opcode: u8) {
+    write!(page, " | ");
     for (digit, w) in MODES {
         if !is_unknown(kind_of(f, w, opcode)) {
-            write!(page, "{digit} ")?;
+            write!(page, "{digit} ");
         }
     }
-    Ok(())
 }
 
 // The wait in each of them. That of 4B, which stands in configuration 2, is shown as a fresh chip has it.
-fn put_waits(page: &mut Page, f: Family, opcode: u8) -> fmt::Result {
-    write!(page, " | ")?;
+fn put_waits(page: &mut Page, f: Family, opcode: u8) {
+    write!(page, " | ");
     for (_, w) in MODES {
         let k = kind_of(f, w, opcode);
         if !is_unknown(k) {
-            write!(page, "{} ", wait_of(k, w, PartM::FRESH_CR2).in_clocks())?;
+            write!(page, "{} ", wait_of(k, w, PartM::FRESH_CR2).in_clocks());
         }
     }
-    Ok(())
 }
 
 // On which wires all but the command travels, and what the address names.
-fn put_plan(page: &mut Page, k: Kind) -> fmt::Result {
+fn put_plan(page: &mut Page, k: Kind) {
     let later = match later_wires(k, Wires::One) {
         Wires::One | Wires::Two => "bus mode",
         Wires::Four => "four wires",
@@ -62,11 +60,11 @@ fn put_plan(page: &mut Page, k: Kind) -> fmt::Result {
         Address::LowNibbleZero => "low four bits 0",
         Address::Ignored => "ignored",
     };
-    write!(page, "| {later} | {address}")
+    write!(page, "| {later} | {address}");
 }
 
 // The data; of 65 that of the register at 00h.
-fn put_body(page: &mut Page, b: Body) -> fmt::Result {
+fn put_body(page: &mut Page, b: Body) {
     match b {
         Body::Nothing => writeln!(page, "| none |"),
         Body::FixedRead(n) => writeln!(page, "| read {} |", n.in_bytes()),
@@ -77,32 +75,31 @@ fn put_body(page: &mut Page, b: Body) -> fmt::Result {
 }
 
 // A command of a family; the size of its data is that of a part of it.
-fn command_row(page: &mut Page, p: Part, opcode: u8) -> fmt::Result {
+fn command_row(page: &mut Page, p: Part, opcode: u8) {
     let f = p.family();
     let Some(k) = kind_in(f, opcode) else {
-        return Ok(());
+        return;
     };
-    write!(page, "| {opcode:02X} | {k}")?;
-    put_modes(page, f, opcode)?;
-    put_plan(page, k)?;
-    put_waits(page, f, opcode)?;
-    put_body(page, body_of(p, k, 0))
+    write!(page, "| {opcode:02X} | {k}");
+    put_modes(page, f, opcode);
+    put_plan(page, k);
+    put_waits(page, f, opcode);
+    put_body(page, body_of(p, k, 0));
 }
 
-fn put_commands(page: &mut Page, p: Part, parts: &str) -> fmt::Result {
-    writeln!(page, "\n### Commands of {parts}\n")?;
+fn put_commands(page: &mut Page, p: Part, parts: &str) {
+    writeln!(page, "\n### Commands of {parts}\n");
     page.write_str(
         "| opcode | command | bus modes | all but the command on | address | wait in each mode, clocks | data, bytes |\n|---|---|---|---|---|---|---|\n",
-    )?;
+    );
     for opcode in 0..=255 {
-        command_row(page, p, opcode)?;
+        command_row(page, p, opcode);
     }
-    Ok(())
 }
 
 // ---- the parts
 
-fn part_row(page: &mut Page, p: Part) -> fmt::Result {
+fn part_row(page: &mut Page, p: Part) {
     writeln!(
         page,
         "| {} | {p} | {} | {} | {} | {} | {} |",
@@ -112,7 +109,7 @@ fn part_row(page: &mut Page, p: Part) -> fmt::Result {
         p.area().in_bytes(),
         p.section().in_bytes(),
         p.wrap_codes()
-    )
+    );
 }
 
 // The parts that have a row which part M32 has: part M has it too, or not.
@@ -123,73 +120,72 @@ fn holders(too: bool) -> &'static str {
 // ---- the register map
 
 // A register of part M32, whose map has all that part M's has.
-fn map_row(page: &mut Page, address: u32) -> fmt::Result {
+fn map_row(page: &mut Page, address: u32) {
     let Some(r) = register_at(Part::M32, address) else {
-        return Ok(());
+        return;
     };
     let k = Kind::Read(Source::Register(r));
     let too = register_at(Part::M, address).is_some();
-    write!(page, "| {address:06X} | {} | {k} ", holders(too))?;
-    put_body(page, body_of(Part::M32, k, 0))
+    write!(page, "| {address:06X} | {} | {k} ", holders(too));
+    put_body(page, body_of(Part::M32, k, 0));
 }
 
 // ---- lengths and shares
 
-fn number_row(page: &mut Page, code: u8, n: usize) -> fmt::Result {
-    writeln!(page, "| {code} | {n} |")
+fn number_row(page: &mut Page, code: u8, n: usize) {
+    writeln!(page, "| {code} | {n} |");
 }
 
 // A code of the groups of part M32, which has all that part M has.
-fn wrap_row(page: &mut Page, code: u8) -> fmt::Result {
+fn wrap_row(page: &mut Page, code: u8) {
     let too = code < Part::M.wrap_codes();
     writeln!(
         page,
         "| {code} | {} | {} |",
         holders(too),
         wrap_length(code).in_bytes()
-    )
+    );
 }
 
 // ---- the tables
 
 // All of them. The page has room for all.
-fn put_tables(page: &mut Page) -> fmt::Result {
+fn put_tables(page: &mut Page) {
     page.write_str(
         "\n### Parts\n\n| number | part | n from | n to | area, bytes | section, bytes | codes in CR3 |\n|---|---|---|---|---|---|---|\n",
-    )?;
+    );
     for p in [Part::M, Part::P, Part::M32] {
-        part_row(page, p)?;
+        part_row(page, p);
     }
-    put_commands(page, Part::M, "parts M and M32")?;
-    put_commands(page, Part::P, "part P")?;
+    put_commands(page, Part::M, "parts M and M32");
+    put_commands(page, Part::P, "part P");
     page.write_str(
         "\n### Registers by address, for 65\n\n| address | on part | register | data, bytes |\n|---|---|---|---|\n",
-    )?;
+    );
     for address in 0..256 {
-        map_row(page, address)?;
+        map_row(page, address);
     }
     page.write_str(
         "\n### Protected memory of parts M and M32, by status bits 4 to 2\n\n| code | 64ths |\n|---|---|\n",
-    )?;
+    );
     for code in 0..8 {
-        number_row(page, code, share(code * 4))?;
+        number_row(page, code, share(code * 4));
     }
     page.write_str(
         "\n### Groups of reads of parts M and M32, by CR3[2:0]\n\n| code | on part | bytes |\n|---|---|---|\n",
-    )?;
+    );
     for code in 0..Part::M32.wrap_codes() {
-        wrap_row(page, code)?;
+        wrap_row(page, code);
     }
-    page.write_str("\n### Groups of part P, by MR0[6:5]\n\n| code | bytes |\n|---|---|\n")?;
+    page.write_str("\n### Groups of part P, by MR0[6:5]\n\n| code | bytes |\n|---|---|\n");
     for code in 0..4 {
-        number_row(page, code, group_length(code * 32).in_bytes())?;
+        number_row(page, code, group_length(code * 32).in_bytes());
     }
-    Ok(())
 }
 
 fn main() {
     let mut buffer = [0; 8192];
     let mut page = Page::begun(&mut buffer, 0);
-    let _ = put_tables(&mut page);
+    put_tables(&mut page);
     flush(&mut page);
 }

@@ -36,7 +36,7 @@ fn words(said: &[u8]) -> &[u8] {
 fn tell_error(what: &[u8], error: Error) {
     let mut room = [0; 256];
     let mut page = Page::begun(&mut room, 0);
-    let _ = write!(page, "{error}");
+    write!(page, "{error}");
     tell(what, words(page.written()));
 }
 

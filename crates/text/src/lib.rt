@@ -22,16 +22,15 @@ pub fn put_decimal(page: &mut Page, v: u64)
 }
 
 // Bytes in hexadecimal, in upper case, with so many digits each at least.
-pub fn put_each(page: &mut Page, bytes: &[u8], width: usize) -> fmt::Result {
+pub fn put_each(page: &mut Page, bytes: &[u8], width: usize) {
     for b in bytes {
-        write!(page, "{b:0width$X}")?;
+        write!(page, "{b:0width$X}");
     }
-    Ok(())
 }
 
 // Bytes in hexadecimal, two digits each.
-pub fn put_bytes(page: &mut Page, bytes: &[u8]) -> fmt::Result {
-    put_each(page, bytes, 2)
+pub fn put_bytes(page: &mut Page, bytes: &[u8]) {
+    put_each(page, bytes, 2);
 }
 
 // Writes the page to a file. The next text begins at the front.
