@@ -1,10 +1,8 @@
 -- EACH OFFSET HAS ITS FIELD, and what the code writes is the image.
 -- Assumes nothing.
-use Rattle.std.specs.Prelude.{◌≡◌, ℕ, suc, ◌+◌, ◌<◌, ◌≤◌, List, [], ◌∷◌, eqb, ◌++◌, length, get_or, take, drop}
+use Rattle.std.specs.Prelude.{◌≡◌, ℕ, suc, ◌+◌, ◌<◌, ◌≤◌, List, ◌∷◌, ◌++◌, length, get_or, take, drop}
 use Rattle.std.proofs.Math.Path.{refl, ap}
 use Rattle.std.proofs.Common.{sym, ◌∙◌, le_of_eq, add-one, arith, append-nil, drop_of_length-le, drop-cons, take_all}
-use Rattle.std.specs.List.{list_all}
-use Rattle.state_check.specs.States.{zeros}
 use Rattle.buffers.specs.Page.{Page, page, puts_of}
 use Rattle.buffers.specs.Laws.{puts_append, puts_front}
 use Rattle.record.specs.declared.devices.Device.{Device}
