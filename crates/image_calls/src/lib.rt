@@ -167,7 +167,8 @@ pub fn fresh_m32(n: u8, device: &[u8], unique: &[u8], image: &mut [u8]) -> Resul
     fresh_mram(Part::M32, n, device, unique, image)
 }
 
-// A fresh chip of part P, with its eight bytes of device identity.
+// A fresh chip of part P, with its eight bytes of device identity. It has no unique number to look at, and the definitions of the two
+// families stand apart (`fresh_mram_in`, `fresh_p_in`), so that one function for both is no plainer.
 #[tactic(auto, using(image::specs::Laws::eight_whole), unfolding(crate::specs::Fresh::fresh_p_in))]
 pub fn fresh_p(n: u8, device: &[u8], image: &mut [u8]) -> Result<(), Answer>
     ensures told { made_in result image.new ≡ fresh_p_in n device.now image.old }

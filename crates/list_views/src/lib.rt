@@ -46,7 +46,8 @@ pub fn phases_of(c: Counts, clocks: &[u8]) -> Phases<'_> {
     }
 }
 
-// The number that clocks carry. `bits` says what bits a clock has: those of a sample stand elsewhere than those of a driven one.
+// The number that clocks carry. `bits` says what bits a clock has: those of a sample stand elsewhere than those of a driven one. (The
+// device gathers samples alone, from a number on, by the clause of `machine_chunks::gathered`.)
 fn number_in<F: Fn(u8) -> u8>(clocks: &[u8], w: Wires, bits: &F) -> u32
     requires { F.IsAlwaysCallable bits.now }
 {
