@@ -53,7 +53,7 @@ pub struct Make {
 // The transaction that is open, as far as its clocks have come: only what cannot be worked out from the rest of the record
 // (D85). `selected` tells that one is open, select being low. `opcode` and `address` are 0 until they are whole; `number` has the
 // bits that have come of what is not whole yet, and `value` the whole bytes of a register write. Where none is open all of it is
-// 0.
+// 0. It is no `Option`: a record may hold facts though none is open, and `valid_of` answers 3 to it.
 #[derive(Clone, Copy, PartialEq, Eq)]
 pub struct Underway {
     pub selected: bool,
@@ -114,7 +114,7 @@ pub fn unclocked(answer: Answer, device: Device) -> Outcome
     }
 }
 
-// The wires of a bus mode.
+// The wires of a bus mode, and one for any other number, which a record may hold.
 pub fn mode_wires(mode: u8) -> Wires
     ensures { result ≡ mode_wires mode }
 {
