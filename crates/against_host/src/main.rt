@@ -19,7 +19,8 @@ enum Call {
     Gather(u8),
 }
 
-// A call, the length of its data and the length of the buffer that is lent to it.
+// A call, the length of its data and the length of the buffer that is lent to it. The lengths stand without their buffers: they are read
+// off the head before anything is cut to them (`turn`).
 #[derive(Clone, Copy)]
 struct Request {
     call: Call,

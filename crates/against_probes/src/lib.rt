@@ -15,7 +15,8 @@ use std::fmt;
 use std::fmt::Write;
 use text::{Page, put_bytes};
 
-// The lengths of what is lent. Those of a device identity and of a unique number are for a fresh chip.
+// The lengths of what is lent. Those of a device identity and of a unique number are for a fresh chip. They stand without the buffers:
+// they are read off the 32 bytes before anything is cut to them (`Lent::sized`).
 #[derive(Clone, Copy)]
 pub struct Lengths {
     pub memory: usize,
@@ -57,6 +58,7 @@ pub struct Probe {
 }
 
 // What a probe leaves to the next one: how long its image is, and how much of memory and area the first of its sequence filled.
+// Lengths and no slices: the buffers are lent anew for each probe.
 #[derive(Clone, Copy)]
 pub struct Left {
     pub image: usize,
@@ -205,6 +207,8 @@ fn over_record(
     })
 }
 
+// The same match again: the calls over a record give an `Outcome`, those over an image a `Reply`, and take other arguments, so that one
+// match with the calls as closures would name all ten as well.
 fn over_image(
     s: Step,
     image: &mut [u8],

@@ -11,7 +11,8 @@ use std::fmt::Write;
 use tape::{LARGEST_MEMORY, MOST_SAMPLES};
 use text::Page;
 
-// The lines of tape `k` and of its records. One too long for the buffer is bad.
+// The lines of tape `k` and of its records. One too long for the buffer is bad; its length stands beside it, since it is printed too
+// (`take_tape`). Memory, area and output are lent apart, as `put_turns` takes them.
 fn put_tape(
     page: &mut Page,
     k: u64,

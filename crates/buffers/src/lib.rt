@@ -8,7 +8,8 @@ ghost use Rattle.buffers.specs.Shown.{shown};
 use std::fmt;
 use std::fmt::Write;
 
-// The buffer, and the place where the next byte goes.
+// The buffer, and the place where the next byte goes. That a call leaves a page on the same buffer is said in each contract
+// (`same_buffer`) and by no invariant: an invariant speaks of one value, and this is of the page before and the page after.
 #[derive(Drop)]
 pub struct Page<'a> {
     bytes: &'a mut [u8],

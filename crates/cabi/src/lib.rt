@@ -1,5 +1,6 @@
 // The C host's calls. What C lends comes as a pointer and a length; a length that is not due is answered, and nothing
 // behind the pointer is then read or written but the counts, which are 0. `include/tondravik.h` says what C must ensure.
+// Names and signatures are C's, so that calls of one shape stand each for itself; what they share is in `image_calls`, `tell` and `fill`.
 #![tactic(auto)]
 
 ghost use Rattle.std.specs.Prelude.{◌≡◌, []};

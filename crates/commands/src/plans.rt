@@ -29,7 +29,8 @@ pub enum Body {
     AnyWrite,
 }
 
-// Waits in clocks, a row for each wait that the papers name: on one, two and four wires, in the order in which `Wires` has them.
+// Waits in clocks, a row for each wait that the papers name: on one, two and four wires, in the order in which `Wires` has them. A table,
+// as document 01 asks.
 const WAITS: [usize; 15] = [0, 0, 0, 8, 4, 2, 8, 0, 4, 6, 0, 6, 8, 0, 6];
 
 // The row of a command's wait; none where the wait stands in configuration 2.

@@ -8,7 +8,7 @@ use kinds::Register;
 use parts::Part;
 use units::Bytes;
 
-// Bytes of the registers, in the order in which `Register` has them.
+// Bytes of the registers, in the order in which `Register` has them. A table, as document 01 asks.
 const SIZES: [usize; 12] = [1, 1, 1, 1, 1, 1, 4, 4, 8, 8, 1, 8];
 
 // The bytes of a register.

@@ -74,7 +74,8 @@ fn is_sampled(samples: &[u8]) -> bool
     samples.iter().all(|x| *x < LEVELS)
 }
 
-// A check, and the answer with which it refuses where it fails.
+// A check, and the answer with which it refuses where it fails. The error is an `Answer`, and each contract here says that it refuses
+// (`refused`): an enum of the refusals alone would be turned into an `Answer` again by every call of the device (`unclocked`).
 fn check(passed: bool, v: Answer) -> Result<(), Answer>
     requires { refuses v ≡ true }
     ensures verdict { told result ≡ first_of Done ((not passed, v) ∷ []) }

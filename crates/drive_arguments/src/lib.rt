@@ -50,7 +50,8 @@ pub enum Fault {
     Untaped,
 }
 
-// What was asked so far, with the n of a fresh chip where there is --fresh, and what comes next.
+// What was asked so far, with the n of a fresh chip where there is --fresh, and what comes next. `tape` and `fresh` are two facts and no
+// `Option` in an `Option`: the two words come in any order, and only `ended` tells whether they go together.
 #[derive(Clone, Copy)]
 pub struct Asked {
     pub order: Order,

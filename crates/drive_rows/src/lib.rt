@@ -16,7 +16,8 @@ use std::fmt::Write;
 use text::{Page, flush, put_each};
 use units::{Clocks, byte_clocks};
 
-// The clocks of each phase: the data has what the others leave.
+// The clocks of each phase: the data has what the others leave. The first three are those of `host_build::front_clocks`, which has their
+// sum alone, by `front_of`; here each is a row.
 fn counts_of(o: Order, k: Kind, all: Clocks) -> Counts {
     let w = mode_wires(o.mode);
     let command = byte_clocks(w);

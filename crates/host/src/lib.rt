@@ -14,7 +14,8 @@ use record::{Answer, mode_wires};
 use units::{Bytes, Clocks};
 
 // The samples of a command, and how many clocks they are; or the answer that refuses it, and the buffer is as it was. A
-// read has a number of bytes in the order, a write has its bytes in `written`.
+// read has a number of bytes in the order, a write has its bytes in `written`. The error is an `Answer` that is never `Done`
+// (`NeverDone`), here and in the refusals: an enum of them would be turned into an `Answer` again for C.
 pub fn build(o: Order, written: &[u8], samples: &mut [u8]) -> Result<Clocks, Answer>
     ensures told { built_as result samples.new ≡ build_of (order_as o written.now) samples.old }
     ensures refused { NeverDone result }

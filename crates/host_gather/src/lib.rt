@@ -15,7 +15,7 @@ use units::{Bytes, Clocks, Wires, clocks_to_bytes, unfinished};
 use wires::{is_driven, seen, shift_in};
 
 // One, two or four wires. Whether a number is one and which wires it means are two answers, as the paper has them (`is_wires`,
-// `mode_wires`): `put_collected` and `mode_wires` are asked of any number.
+// `mode_wires`), and `mode_wires` has one for any number.
 fn is_wires(n: u8) -> bool
     ensures { result ≡ is_wires n }
 {
@@ -61,7 +61,7 @@ pub fn refusal(n: u8, driven: &[u8], bytes: &[u8]) -> Result<(), Answer>
 }
 
 // The bytes, from the front of the buffer: the bits of each driven clock go below those before them, and the last
-// clock of a byte brings it.
+// clock of a byte brings it. The clocks of a byte are counted and not cut off in chunks: silent clocks may stand between them.
 pub fn put_collected(w: Wires, driven: &[u8], bytes: &mut [u8]) -> Bytes
     ensures { page result.0 bytes.new ≡ puts_of (collected w driven.now) (page 0 bytes.old) }
 {

@@ -83,7 +83,8 @@ pub fn is_overlong_wait(o: Order, k: Kind) -> bool
     waits_by_register(k) && 0x0F < o.cr2
 }
 
-// 4: a register write wants all of its bytes, every other command with data one.
+// 4: a register write wants all of its bytes, every other command with data one. Data, wanted and written are parameters of their own here,
+// in `is_many` and in `host_build::bytes_sent`, as `too_few` and `too_many` of the paper take them; an order has `wanted` alone.
 pub fn is_few(b: Body, wanted: Bytes, written: Bytes) -> bool
     ensures { result ≡ too_few b wanted written }
 {

@@ -115,7 +115,9 @@ pub fn close(image: &mut [u8], memory: &[u8], area: &[u8]) -> Reply
 }
 
 // A fresh chip of a part of the MRAM, with its four bytes of device identity and its unique number. Whatever the bytes were, they
-// are written over, so that only their number is looked at.
+// are written over, so that only their number is looked at. The error is an `Answer`, and each contract here says that it is not
+// `Done`: an enum of those that come would be turned into an `Answer` again for C, and the definitions tell answers (`made_in`). What
+// is lent comes one by one, as C lends it (`tondravik_fresh_m`).
 #[tactic(auto, using(image::specs::Laws::eight_whole, parts::specs::Laws::part_back), unfolding(crate::specs::Fresh::fresh_mram_in))]
 fn fresh_mram(
     part: Part,

@@ -22,6 +22,7 @@ pub struct Count {
     unit: &'static str,
 }
 
+// The unit stands in the name of each, as at the doors of `units`; a number of records has no type that could choose it.
 impl Count {
     pub fn of_clocks(c: Clocks) -> Count {
         Count {

@@ -72,8 +72,8 @@ fn opcode_in(s: Setting, c: Counts, samples: &[u8]) -> Option<u8> {
     }
 }
 
-// Whether the command has an address. Setting and kind travel apart, here and below, as the functions of plan_in_force and
-// `View` have them.
+// Whether the command has an address. Setting and kind travel apart, here and below, as the functions of plan_in_force take
+// them; a `View` is made of them only afterwards.
 pub fn is_addressed(s: Setting, k: Kind) -> bool {
     Clocks::none() < plan_in_force::address_clocks(s, k)
 }

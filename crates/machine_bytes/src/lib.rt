@@ -1,7 +1,7 @@
 // One byte of a burst: stored where it lies, or read and driven; and how many of a burst lie at protected places.
 //
-// The number of the byte is below 65,536 and the memory no larger than an address reaches, as in `places`, where it stands why no type
-// has these bounds.
+// The number of the byte is below 65,536 and the memory no larger than an address reaches, as in `places`, where it stands why the
+// number of a byte has no type with this bound; nor has that of a clock, and for n it stands at `record::Setting`.
 #![tactic(auto)]
 
 ghost use Rattle.std.specs.Prelude.{◌≡◌, ◌≤◌, get_or, set};

@@ -145,7 +145,8 @@ fn data_step(h: Terms, p: Progress, x: u8, memory: &mut [u8], area: &mut [u8]) -
     }
 }
 
-// One clock, whatever its phase.
+// One clock, whatever its phase. A match on the phase and no closure that is handed on: the phase is kept in the progress, and the steps
+// take different arguments (`step_of` goes by it too).
 #[tactic(auto, unfolding(machine_phases::specs::Machine::step_of))]
 pub fn step(h: Terms, p: Progress, x: u8, memory: &mut [u8], area: &mut [u8]) -> Progress
     requires { (h.setting.n ≤ 24) × ((total p.tally.counts).0 < 65535) }

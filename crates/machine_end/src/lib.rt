@@ -83,7 +83,8 @@ fn is_shut(b: Body, a: Aim, m: Bytes) -> bool
     matches!(b, Body::AnyWrite) && is_all_shut(a, m)
 }
 
-// The rows of the table that look at the data.
+// The rows of the table that look at the data. An `Answer` and no `Result`, here and in `judge_in`: `Done` is one of the answers of a
+// transaction (`answer_by`), and `finish` would make it of an `Ok` again.
 #[tactic(auto, using(units::specs::Compared::lt_is))]
 fn judge_data(s: Setting, armed: bool, latch: bool, p: Progress) -> Answer
     requires { (s.n ≤ 24) × ((total p.tally.counts).0 ≤ 65535) }

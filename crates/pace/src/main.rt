@@ -43,6 +43,7 @@ fn small_at(rt: &impl Env, i: usize, buffer: &mut [u8], most: u8) -> Option<u8> 
     u8::try_from(number_at(rt, i, buffer, u32::from(most))?).ok()
 }
 
+// No other number is taken here, and `record::mode_wires` takes any for one wire.
 fn wires_at(rt: &impl Env, i: usize, buffer: &mut [u8]) -> Option<Wires> {
     match number_at(rt, i, buffer, 4)? {
         1 => Some(Wires::One),

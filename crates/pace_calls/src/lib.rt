@@ -29,7 +29,8 @@ pub struct Asked {
 }
 
 impl Asked {
-    // The number of the wires, as the record's mode and the host half have it.
+    // The number of the wires, as the record's mode and the host half have it. It is a byte there; `From` gives a `usize` for shifts,
+    // and a conversion of that could fail.
     pub fn mode(self) -> u8 {
         match self.wires {
             Wires::One => 1,

@@ -22,8 +22,8 @@ pub struct Registers {
 
 // What does not outlive a power cycle: the bus mode (1, 2 or 4), the write latch, the arming of a reset, sleep,
 // and the PSRAM's toggle. A reset puts mode, latch and toggle back; the arming falls with the transaction that carried it. The
-// mode is a number, since any may stand in a record that a caller lends, and the state check, `underway::valid`, answers 3 to one
-// that is no mode.
+// mode is a number, since any may stand in a record that a caller lends, and the state check, `underway::valid`, is false
+// of one that is no mode, which is answered 3.
 #[derive(Clone, Copy, PartialEq, Eq)]
 pub struct Volatile {
     pub mode: u8,
@@ -43,7 +43,8 @@ pub struct Identities {
 }
 
 // What a chip is made of: its part, by number, and n, its memory having 2^n bytes (D57). Any numbers may stand here; the size
-// check, `device_checks::is_sized`, answers 1 to one that stands for no part and to an n that the part is not offered in.
+// check, `device_checks::is_sized`, is false of one that stands for no part and of an n that the part is not offered in, which is
+// answered 1.
 #[derive(Clone, Copy, PartialEq, Eq)]
 pub struct Make {
     pub part: u8,
@@ -53,7 +54,8 @@ pub struct Make {
 // The transaction that is open, as far as its clocks have come: only what cannot be worked out from the rest of the record
 // (D85). `selected` tells that one is open, select being low. `opcode` and `address` are 0 until they are whole; `number` has the
 // bits that have come of what is not whole yet, and `value` the whole bytes of a register write. Where none is open all of it is
-// 0. It is no `Option`: a record may hold facts though none is open, and `valid_of` answers 3 to it.
+// 0. It is no `Option`: a record may hold facts though none is open, and to it, of which `valid_of` is
+// false, the answer is 3.
 #[derive(Clone, Copy, PartialEq, Eq)]
 pub struct Underway {
     pub selected: bool,
@@ -75,7 +77,8 @@ pub struct Device {
 
 // What neither latch nor arming has a part in: all that the rules of clocks, addresses and places ask of
 // a record, with the part and the wires of the bus mode as types (D21). It has no invariant that bounds n: any record may come to
-// `Device::setting`, which gives `setting_of self` and cannot fail. So the contracts that need a bound ask for it: `s.n ≤ 24`, and
+// `Device::setting`, which gives `setting_of self` and cannot fail. So the contracts that need a bound ask for it: `s.n ≤ 24`,
+// `a.setting.n` or `h.setting.n` where an `Aim` or what a transaction runs under has it, `n` where it comes alone, and
 // `d.make.n ≤ 24` where the record itself is at hand.
 #[derive(Clone, Copy, PartialEq, Eq)]
 pub struct Setting {

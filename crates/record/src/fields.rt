@@ -48,6 +48,7 @@ impl Device {
         self
     }
 
+    // The mode is a number, as in `Volatile`: `mode_to` takes any.
     pub fn in_mode(mut self, mode: u8) -> Self
         ensures { result ≡ mode_to mode self }
     {

@@ -80,7 +80,7 @@ pub fn are_zero(bytes: &[u8]) -> bool
     bytes.iter().all(|b| *b == 0)
 }
 
-// The bus modes of each family.
+// The bus modes of each family: the check that tells which numbers are modes.
 #[tactic(auto, unfolding(crate::specs::States::mode_allowed))]
 pub fn mode_allowed(family: Family, mode: u8) -> bool
     ensures { result ≡ mode_allowed family mode }

@@ -72,7 +72,7 @@ pub fn advance(
     let chip = chip_for(entry, s.chip).ok_or(Stop::Unready(entry))?;
     let size = chip.socket.memory.in_bytes();
     let edge = chip.socket.area.in_bytes();
-    // With `get_mut` in place of this test, it takes further answers to show that memory and area stay as they were (`turn_of`).
+    // With `get_mut` in place of this test the proof that memory and area stay as they were (`turn_of`) does not close.
     if memory.len() < size || area.len() < edge {
         return Err(Stop::Unready(entry));
     }

@@ -2,7 +2,7 @@
 // clocks have come.
 //
 // Setting and open transaction are two parameters, as the definitions of `Rattle.paper.specs.Underway` take them: the setting is
-// worked out from the record once, in `valid` and by `machine_chunks`, and a struct of the two would be taken apart in each function.
+// worked out from the record in `valid`, `machine_chunks::go_on` and `device::close`, and a struct of the two would be taken apart in each function.
 #![tactic(auto)]
 
 ghost use Rattle.std.specs.Prelude.{◌≡◌, ◌≤◌};

@@ -112,7 +112,7 @@ impl Add for Clocks {
     }
 }
 
-// What is left of clocks when some of them are taken off.
+// What is left of clocks when some of them are taken off. It asks that there are so many; `past` gives the same and asks nothing.
 impl Sub for Clocks {
     type Output = Clocks;
 
