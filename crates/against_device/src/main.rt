@@ -6,7 +6,7 @@ use against_input::{Cut, play, take, take_head};
 use against_probes::{Left, Lent, Probe, begun, called, put_line};
 use bench_columns::room;
 use parts::LARGEST_MEMORY;
-use text::Page;
+use text::{Page, flush_full};
 
 // Room for the output of any probe: a generated one lends a few bytes more than 65,536.
 const OUTPUT: usize = 131072;
@@ -25,6 +25,7 @@ fn turn(page: &mut Page, k: u64, left: &mut Option<Left>, lent: Lent) -> Result<
     take(t.samples)?;
     let (r, t) = called(p, t)?;
     put_line(page, k, r, &t);
+    flush_full(page);
     *left = Some(from);
     Ok(true)
 }

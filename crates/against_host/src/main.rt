@@ -9,7 +9,7 @@ use host_order::Order;
 use record::Answer;
 use std::fmt;
 use std::fmt::Write;
-use text::Page;
+use text::{Page, flush_full};
 use units::Bytes;
 
 // A call of the host half: a command becomes samples, or what was driven on so many wires becomes bytes.
@@ -82,6 +82,7 @@ fn turn(page: &mut Page, k: u64, input: &mut [u8], buffer: &mut [u8]) -> Result<
     let buffer = buffer.get_mut(..r.room).ok_or(Cut)?;
     take(input)?;
     put_line(page, k, r.call, input, buffer);
+    flush_full(page);
     Ok(true)
 }
 

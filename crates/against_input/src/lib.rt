@@ -3,7 +3,7 @@
 #![tactic(auto)]
 
 use bench_columns::cut;
-use text::{Page, flush, flush_full};
+use text::{Page, flush};
 
 // The input ends before all is there that it asks for, or asks for what there is not.
 #[derive(Clone, Copy, PartialEq, Eq)]
@@ -53,14 +53,14 @@ pub fn take_tape(tape: &mut [u8]) -> Result<Option<usize>, Cut> {
     Ok(Some(long))
 }
 
-// Turns by their number, each putting its line on the page, until one finds the input at its end or cut. A turn tells whether
-// there was something.
+// Turns by their number, each putting its lines on the page and writing it out where it may fill, until one finds the input at its end
+// or cut. A turn tells whether there was something.
 pub fn play<F: FnMut(&mut Page, u64) -> Result<bool, Cut>>(page: &mut Page, mut turn: F)
     requires { F.IsAlwaysCallable turn }
 {
     for k in 1..=1000000 {
         match turn(page, k) {
-            Ok(true) => flush_full(page),
+            Ok(true) => {}
             Ok(false) => break,
             Err(Cut) => {
                 cut(page);

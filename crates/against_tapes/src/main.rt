@@ -9,7 +9,7 @@ use parts::LARGEST_AREA;
 use std::fmt;
 use std::fmt::Write;
 use tape::{LARGEST_MEMORY, MOST_SAMPLES};
-use text::Page;
+use text::{Page, flush_full};
 
 // The lines of tape `k` and of its records. One too long for the buffer is bad; its length stands beside it, since it is printed too
 // (`take_tape`). Memory, area and output are lent apart, as `put_turns` takes them.
@@ -24,10 +24,11 @@ fn put_tape(
 ) {
     writeln!(page, "tape {k} {long}");
     match tape {
-        Some(whole) => put_turns(page, whole, memory, area, output),
-        None => {
-            last_line(page, b"bad", 0);
+        Some(whole) => {
+            put_turns(page, whole, memory, area, output);
+            flush_full(page);
         }
+        None => last_line(page, b"bad", 0),
     }
 }
 

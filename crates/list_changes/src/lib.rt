@@ -13,12 +13,16 @@ const LINES: u64 = 8;
 // The most changed bytes that are counted, more than a chip on a tape has.
 const COUNTED: u64 = 1000000;
 
-// A line on what changed, where it did. A name has twenty columns.
-fn put_change<T: Copy + PartialEq + Display>(page: &mut Page, name: &str, old: T, new: T) {
-    if old == new {
-        return;
-    }
+// A line on what changed. A name has twenty columns.
+fn put_line<T: Copy + Display>(page: &mut Page, name: &str, old: T, new: T) {
     writeln!(page, "  changed   {name:20}{old} -> {new}");
+}
+
+// The same, where it did.
+fn put_change<T: Copy + PartialEq + Display>(page: &mut Page, name: &str, old: T, new: T) {
+    if old != new {
+        put_line(page, name, old, new);
+    }
 }
 
 // A register.
@@ -43,7 +47,9 @@ fn put_flag(page: &mut Page, name: &str, down: &str, up: &str, old: bool, new: b
 }
 
 fn put_volatile(page: &mut Page, old: Volatile, new: Volatile) {
-    put_change(page, "bus mode", mode_wires(old.mode), mode_wires(new.mode));
+    if old.mode != new.mode {
+        put_line(page, "bus mode", mode_wires(old.mode), mode_wires(new.mode));
+    }
     put_flag(page, "write latch", "down", "up", old.latch, new.latch);
     put_flag(page, "arming", "disarmed", "armed", old.armed, new.armed);
     put_flag(page, "sleep", "awake", "asleep", old.asleep, new.asleep);
