@@ -60,7 +60,8 @@ pub struct Cells<'a>(pub &'a [u8]);
 
 impl fmt::Display for Cells<'_> {
     fn fmt<W: fmt::Write>(&self, f: &mut fmt::Formatter<W>) -> fmt::Result {
-        for (i, b) in self.0.iter().enumerate() {
+        let Cells(bytes) = self;
+        for (i, b) in bytes.iter().enumerate() {
             let gap = if i == 0 { "" } else { " " };
             write!(f, "{gap}{b:02X}")?;
         }
