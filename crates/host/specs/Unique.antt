@@ -1,15 +1,20 @@
--- UNIQUE for the host half's two calls.
+-- UNIQUE for the host half's two calls, and for the refusals that they begin with.
 -- Assumes nothing.
-use Rattle.std.specs.Prelude.{◌≡◌, refl, ℕ, cond, List, Ok, Err}
+use Rattle.std.specs.Prelude.{◌≡◌, refl, ℕ, false, cond, List, Ok, Err, MatchResult}
 use Rattle.std.specs.declared.result.Result.{Result}
-use Rattle.std.proofs.Common.{sym, ap, ◌∙◌}
+use Rattle.std.proofs.Common.{sym, ap, ◌∙◌, true≢false}
+use Rattle.basis.specs.Unique.{check_unique}
+use Rattle.kinds.specs.declared.Kind.{Kind}
 use Rattle.units.specs.declared.Clocks.{Clocks}
 use Rattle.units.specs.declared.Bytes.{Bytes}
 use Rattle.units.specs.Units.{clocks, bytes}
 use Rattle.record.specs.declared.answers.Answer.{Answer}
+use Rattle.record.specs.declared.answers.Answer.TheVariants.{Done}
 use Rattle.record.specs.Answers.{is_done}
 use Rattle.paper.specs.Building.{Order, Told, build_of}
 use Rattle.paper.specs.Collecting.{collect_of}
+use Rattle.host_build.specs.Sizes.{refusal_of}
+use Rattle.host_gather.specs.Refusals.{refusal_of as gathering_refused}
 use Rattle.host.specs.Results.{result_as, built_as, gathered_as, NeverDone}
 
 -- a result of either call, and the buffer as the call leaves it
@@ -42,3 +47,17 @@ build_unique o out = one_end clocks
 pub gather_unique : (wires : ℕ) (driven out : List ℕ) {x y : Ended Bytes} → NeverDone x.result → NeverDone y.result → shows_gathered x ≡ collect_of wires driven out
     → shows_gathered y ≡ collect_of wires driven out → x ≡ y
 gather_unique wires driven out = one_end bytes
+
+-- the refusals: what the contracts of `host_build::refusal` and `host_gather::refusal` say of each case of the result leaves one
+abbrev pub Verdict : Answer → Result (Unit {0}) Answer → Type 0
+Verdict v r = MatchResult r (λ u. v ≡ Done) (λ w. (w ≡ v) × (is_done w ≡ false))
+
+one_verdict : (v : Answer) (r s : Result (Unit {0}) Answer) → Verdict v r → Verdict v s → r ≡ s
+one_verdict v = check_unique (λ w. is_done w ≡ false) Done v (λ e. absurd (true≢false e))
+
+pub build_refusal_unique : (o : Order) (k : Kind) (out : List ℕ) (r s : Result (Unit {0}) Answer) → Verdict (refusal_of o k out) r → Verdict (refusal_of o k out) s → r ≡ s
+build_refusal_unique o k out = one_verdict (refusal_of o k out)
+
+pub gather_refusal_unique : (wires : ℕ) (driven out : List ℕ) (r s : Result (Unit {0}) Answer) → Verdict (gathering_refused wires driven out) r → Verdict (gathering_refused wires driven out) s
+    → r ≡ s
+gather_refusal_unique wires driven out = one_verdict (gathering_refused wires driven out)

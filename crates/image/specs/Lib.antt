@@ -4,3 +4,4 @@ pub mod Stretches
 pub mod Laws
 pub mod Back
 pub mod Examples
+pub mod Unique
