@@ -11,19 +11,21 @@ use text::{Page, flush_full};
 // Room for the output of any probe: a generated one lends a few bytes more than 65,536.
 const OUTPUT: usize = 131072;
 
-// Probe `k`, where there is one, with its image, where it brings one, and its samples. What it leaves the next one may go on from.
+// Probe `k`, where there is one, with its image, where it brings one, and its samples. What it leaves the next one may go on from. No more
+// of the input is taken than is asked for so far: where a probe is cut off, nothing is waited for behind it.
 fn turn(page: &mut Page, k: u64, left: &mut Option<Left>, lent: Lent) -> Result<bool, Cut> {
     let Some(head) = take_head()? else {
         return Ok(false);
     };
     let p = Probe::try_from(head)?;
     let from = begun(p, *left)?;
-    let t = lent.sized(from.image, p.lengths)?;
+    let t = lent.imaged(from.image)?;
     if !p.is_next {
         take(t.image)?;
     }
+    let t = t.sized(from.image, p.lengths)?;
     take(t.samples)?;
-    let (r, t) = called(p, t)?;
+    let (r, t) = called(p, t);
     put_line(page, k, r, &t);
     flush_full(page);
     *left = Some(from);

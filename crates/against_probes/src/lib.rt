@@ -139,22 +139,51 @@ impl TryFrom<[u8; 32]> for Probe {
 
 // ---- what is lent
 
-// What a probe begins with and leaves to the next one: what its lengths say, or what the one before it left. One that goes on has
-// something to go on from, brings no image of its own, and is lent no more than there is.
-pub fn begun(p: Probe, left: Option<Left>) -> Result<Left, Cut> {
+// What a probe goes by: what its lengths say, or what the one before it left. One that goes on has something to go on from, brings
+// no image of its own, and is lent no more than there is.
+fn from_of(p: Probe, left: Option<Left>) -> Option<Left> {
     let l = p.lengths;
-    if !p.is_next {
-        return Ok(Left {
+    if p.is_next {
+        left.filter(|f| l.image == 0 && l.memory <= f.memory && l.area <= f.area)
+    } else {
+        Some(Left {
             image: l.image,
             memory: l.memory,
             area: l.area,
-        });
+        })
     }
-    left.filter(|f| l.image == 0 && l.memory <= f.memory && l.area <= f.area)
+}
+
+// Whether there is its call: over a record the image has the length of one, and a fresh chip's identities are among the samples.
+fn is_callable(p: Probe, image: usize) -> bool {
+    let l = p.lengths;
+    match p.call {
+        Call::OverRecord(_) => image == IMAGE,
+        Call::OverImage(_) => true,
+        Call::Fresh(_) => l.device <= l.samples && l.unique <= l.samples - l.device,
+    }
+}
+
+// What a probe begins with and leaves to the next one. It is known by its head whether it can be called: nothing is taken for one that
+// cannot.
+pub fn begun(p: Probe, left: Option<Left>) -> Result<Left, Cut> {
+    from_of(p, left)
+        .filter(|from| is_callable(p, from.image))
         .ok_or(Cut)
 }
 
 impl<'a> Lent<'a> {
+    // So much of the image, where there is so much, and all else as it is.
+    pub fn imaged(self, image: usize) -> Result<Lent<'a>, Cut> {
+        Ok(Lent {
+            image: self.image.get_mut(..image).ok_or(Cut)?,
+            memory: self.memory,
+            area: self.area,
+            samples: self.samples,
+            output: self.output,
+        })
+    }
+
     // As much of it as a probe asks for, where there is so much.
     pub fn sized(self, image: usize, l: Lengths) -> Result<Lent<'a>, Cut> {
         Ok(Lent {
@@ -182,6 +211,14 @@ fn fill_lent(p: Probe, t: &mut Lent) {
 
 // ---- the call
 
+// A reply without clocks.
+fn uncounted(answer: Answer) -> Reply {
+    Reply {
+        answer,
+        counts: Counts::none(),
+    }
+}
+
 // Over the record, whatever it is worth: none of the image's bytes is looked at. The image is then that of the next record. What is
 // lent is named one by one, here and below, as the calls of the device and those over an image have it.
 fn over_record(
@@ -191,8 +228,11 @@ fn over_record(
     area: &mut [u8],
     samples: &[u8],
     output: &mut [u8],
-) -> Result<Reply, Cut> {
-    let d = record_of(<&[u8; IMAGE]>::try_from(&image[..]).map_err(|_| Cut)?);
+) -> Reply {
+    let Ok(whole) = <&[u8; IMAGE]>::try_from(&image[..]) else {
+        return uncounted(Answer::State);
+    };
+    let d = record_of(whole);
     let o = match s {
         Step::Transact => device::transact(d, memory, area, samples, output),
         Step::PowerCycle => device::power_cycle(d, memory, area),
@@ -201,10 +241,10 @@ fn over_record(
         Step::Close => device::close(d, memory, area),
     };
     put_record(o.device, image);
-    Ok(Reply {
+    Reply {
         answer: o.answer,
         counts: o.counts,
-    })
+    }
 }
 
 // The same match again: the calls over a record give an `Outcome`, those over an image a `Reply`, and take other arguments, so that one
@@ -227,24 +267,25 @@ fn over_image(
 }
 
 // A fresh chip, with the identities that stand at the front of the samples.
-fn fresh(part: Part, p: Probe, samples: &[u8], image: &mut [u8]) -> Result<Reply, Cut> {
-    let (device, rest) = samples.split_at_checked(p.lengths.device).ok_or(Cut)?;
-    let unique = rest.get(..p.lengths.unique).ok_or(Cut)?;
+fn fresh(part: Part, p: Probe, samples: &[u8], image: &mut [u8]) -> Reply {
+    let Some((device, rest)) = samples.split_at_checked(p.lengths.device) else {
+        return uncounted(Answer::State);
+    };
+    let Some(unique) = rest.get(..p.lengths.unique) else {
+        return uncounted(Answer::State);
+    };
     let made = match part {
         Part::M => image_calls::fresh_m(p.n, device, unique, image),
         Part::P => image_calls::fresh_p(p.n, device, image),
         Part::M32 => image_calls::fresh_m32(p.n, device, unique, image),
     };
-    Ok(Reply {
-        answer: made.err().unwrap_or(Answer::Done),
-        counts: Counts::none(),
-    })
+    uncounted(made.err().unwrap_or(Answer::Done))
 }
 
-// A call on what is filled, or on what was left. There is none over a record whose image has another length, and no fresh chip
-// whose identities are not among the samples. What is lent is taken apart and handed back: Rattle knows no read of one field while
-// another one of the same loan is lent on.
-pub fn called<'a>(p: Probe, mut t: Lent<'a>) -> Result<(Reply, Lent<'a>), Cut> {
+// A call on what is filled, or on what was left. Over an image of another length there is no record, and a fresh chip needs its identities
+// among the samples: 3 (no probe that has `begun` comes to this). What is lent is taken apart and handed back: Rattle knows no read of
+// one field while another one of the same loan is lent on.
+pub fn called<'a>(p: Probe, mut t: Lent<'a>) -> (Reply, Lent<'a>) {
     fill_lent(p, &mut t);
     let Lent {
         image,
@@ -254,9 +295,9 @@ pub fn called<'a>(p: Probe, mut t: Lent<'a>) -> Result<(Reply, Lent<'a>), Cut> {
         output,
     } = t;
     let reply = match p.call {
-        Call::OverRecord(s) => over_record(s, image, memory, area, samples, output)?,
+        Call::OverRecord(s) => over_record(s, image, memory, area, samples, output),
         Call::OverImage(s) => over_image(s, image, memory, area, samples, output),
-        Call::Fresh(part) => fresh(part, p, samples, image)?,
+        Call::Fresh(part) => fresh(part, p, samples, image),
     };
     let left = Lent {
         image,
@@ -265,7 +306,7 @@ pub fn called<'a>(p: Probe, mut t: Lent<'a>) -> Result<(Reply, Lent<'a>), Cut> {
         samples,
         output,
     };
-    Ok((reply, left))
+    (reply, left)
 }
 
 // ---- its line
