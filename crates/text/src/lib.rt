@@ -7,8 +7,6 @@ ghost use Rattle.buffers.specs.Shown.{shown};
 ghost use Rattle.text.specs.Decimal.{decimal_of};
 
 pub use buffers::Page;
-use std::fmt;
-use std::fmt::Write;
 
 // A number in decimal. It is put byte by byte, not by `write!`: the clause says which bytes they are (`decimal_of`), which
 // `write!` tells no proof.
@@ -21,15 +19,36 @@ pub fn put_decimal(page: &mut Page, v: u64)
     page.put_all(&digits[..n]);
 }
 
-// Bytes in hexadecimal, in upper case, with so many digits each at least.
-pub fn put_each(page: &mut Page, bytes: &[u8], width: usize) {
+const DIGITS: [u8; 16] = *b"0123456789ABCDEF";
+
+// Zeros before the two digits of a byte: it is put with sixteen at most.
+const ZEROS: [u8; 14] = [b'0'; 14];
+
+// A byte in hexadecimal, in upper case, with so many digits at least, but no more than sixteen. Its digits are looked up: whole images and
+// outputs are put so, and `write!` takes several times as long for a byte.
+fn put_hex(page: &mut Page, b: u8, width: usize)
+    ensures { page.new.bytes.ghost_name ≡ page.old.bytes.ghost_name }
+{
+    page.put_all(&ZEROS[..width.clamp(2, 16) - 2]);
+    if 1 < width || 15 < b {
+        page.put(DIGITS[usize::from(b / 16)]);
+    }
+    page.put(DIGITS[usize::from(b % 16)]);
+}
+
+// Bytes in hexadecimal, in upper case, with so many digits each at least, but no more than sixteen.
+pub fn put_each(page: &mut Page, bytes: &[u8], width: usize)
+    ensures { page.new.bytes.ghost_name ≡ page.old.bytes.ghost_name }
+{
     for b in bytes {
-        write!(page, "{b:0width$X}");
+        put_hex(page, *b, width);
     }
 }
 
 // Bytes in hexadecimal, two digits each.
-pub fn put_bytes(page: &mut Page, bytes: &[u8]) {
+pub fn put_bytes(page: &mut Page, bytes: &[u8])
+    ensures { page.new.bytes.ghost_name ≡ page.old.bytes.ghost_name }
+{
     put_each(page, bytes, 2);
 }
 
