@@ -1,6 +1,6 @@
 -- Laws of collecting: what each sample adds, and the bytes clock by clock.
 -- Assumes nothing.
-use Rattle.std.specs.Prelude.{◌≡◌, ℕ, suc, ◌+◌, ◌/◌, ◌%◌, ◌<◌, ◌≤◌, Bool, true, false, cond, not, ◌&&◌, eqb, get_or, drop, count_by}
+use Rattle.std.specs.Prelude.{◌≡◌, ℕ, suc, ◌+◌, ◌-◌, ◌/◌, ◌%◌, ◌<◌, ◌≤◌, Bool, true, false, cond, not, ◌&&◌, eqb, get_or, drop, count_by}
 use Rattle.std.specs.List.{list_any}
 use Rattle.std.proofs.Math.Path.{refl, ap}
 use Rattle.std.proofs.Math.Numerals.{one-add}
@@ -63,6 +63,37 @@ not_silent false n = sym (one-add n)
 pub count_driven : (xs : List ℕ) → count_of xs ≡ count_by (λ x. not (eqb x 0)) xs
 unfolding count_of
 count_driven xs = is_count_by count_of (λ x. not (eqb x 0)) refl (λ y ys. not_silent (eqb y 0) (count_of ys)) xs
+
+-- of all clocks the silent ones so far are taken off: the driven ones so far are left, and those that come
+pub record Counted (xs : List ℕ) (count i : ℕ) : Type 0 where
+  pub seen : i ≤ length xs
+  pub some : length xs ≤ count + i
+  pub left : count + i + count_of (drop i xs) ≡ length xs + count_of xs
+
+pub none_counted : (xs : List ℕ) → Counted xs (length xs) 0
+none_counted xs = record { seen = omega arith; some = omega arith; left = omega arith }
+
+module _ {xs : List ℕ} {count i : ℕ} (f : Counted xs count i) where
+  pub count_skip : i < length xs → get_or xs i 0 ≡ 0 → Counted xs (count - 1) (i + 1)
+  unfolding count_of
+  count_skip h e =
+      let k = rw (drop_one xs i h, eq-eqb (get_or xs i 0) 0 e) at f.left in
+      let l = f.some in
+      record { seen = omega arith; some = omega arith; left = omega arith }
+
+  pub count_more : i < length xs → (get_or xs i 0 ≡ 0 → ⊥) → Counted xs count (i + 1)
+  unfolding count_of
+  count_more h n =
+      let k = rw (drop_one xs i h, ne_eqb (get_or xs i 0) 0 n) at f.left in
+      let l = f.some in
+      record { seen = omega arith; some = omega arith; left = omega arith }
+
+  pub count_end : length xs ≤ i → count ≡ count_of xs
+  unfolding count_of
+  count_end h =
+      let k = rw (drop_of_length-le xs {i = i} h) at f.left in
+      let l = f.seen in
+      omega arith
 
 module _ (w : Wires) where
   count_step : (b : Bool) (v n : ℕ) (ys : List ℕ) → length ys ≡ n → length (cond b ys (v ∷ ys)) ≡ cond b n (suc n)

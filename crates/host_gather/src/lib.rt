@@ -29,11 +29,18 @@ fn is_strange(w: Wires, driven: &[u8]) -> bool
     driven.iter().any(|x| *x != 0 && !is_driven(*x, w))
 }
 
-// The clocks in which it drives: all but the silent ones.
+// The clocks in which it drives: all of them, less the silent ones. These are taken off as they come: a `filter` that is counted looks for the
+// next one each time, and a gathering takes up to twice as long where most clocks are silent.
 fn driven_clocks(driven: &[u8]) -> Clocks
     ensures { result ≡ driven_in driven.now }
 {
-    Clocks::stated(driven.iter().filter(|x| **x != 0).count())
+    let mut count = driven.len();
+    for x in driven {
+        if *x == 0 {
+            count -= 1;
+        }
+    }
+    Clocks::stated(count)
 }
 
 // The whole bytes that they make.
