@@ -1,10 +1,11 @@
 // Text gathered on a page before it is written out.
 #![tactic(auto)]
 
-ghost use Rattle.std.specs.Prelude.{◌≡◌};
+ghost use Rattle.std.specs.Prelude.{◌≡◌, replicate};
 ghost use Rattle.buffers.specs.Page.{puts_of};
 ghost use Rattle.buffers.specs.Shown.{shown};
 ghost use Rattle.text.specs.Decimal.{decimal_of};
+ghost use Rattle.text.specs.Hexadecimal.{hex_of, hexes_of};
 
 pub use buffers::Page;
 
@@ -21,24 +22,34 @@ pub fn put_decimal(page: &mut Page, v: u64)
 
 const DIGITS: [u8; 16] = *b"0123456789ABCDEF";
 
-// Zeros before the two digits of a byte: it is put with sixteen at most.
-const ZEROS: [u8; 14] = [b'0'; 14];
-
-// A byte in hexadecimal, in upper case, with so many digits at least, but no more than sixteen. Its digits are looked up: whole images and
-// outputs are put so, and `write!` takes several times as long for a byte.
-fn put_hex(page: &mut Page, b: u8, width: usize)
-    ensures { page.new.bytes.ghost_name ≡ page.old.bytes.ghost_name }
+// So many zeros.
+fn put_zeros(page: &mut Page, count: usize)
+    ensures same_buffer { page.new.bytes.ghost_name ≡ page.old.bytes.ghost_name }
+    ensures put { shown page.new ≡ puts_of (replicate count 48) (shown page.old) }
 {
-    page.put_all(&ZEROS[..width.clamp(2, 16) - 2]);
+    for _ in 0..count {
+        page.put(b'0');
+    }
+}
+
+// A byte in hexadecimal, in upper case, with so many digits at least. Its digits are looked up: whole images and outputs are put so,
+// and `write!` takes several times as long for a byte.
+#[tactic(auto, using(buffers::specs::Laws::puts_append), unfolding(crate::specs::Hexadecimal::hex_of, buffers::specs::Page::puts_of))]
+fn put_hex(page: &mut Page, b: u8, width: usize)
+    ensures same_buffer { page.new.bytes.ghost_name ≡ page.old.bytes.ghost_name }
+    ensures put { shown page.new ≡ puts_of (hex_of width b) (shown page.old) }
+{
+    put_zeros(page, width.saturating_sub(2));
     if 1 < width || 15 < b {
         page.put(DIGITS[usize::from(b / 16)]);
     }
     page.put(DIGITS[usize::from(b % 16)]);
 }
 
-// Bytes in hexadecimal, in upper case, with so many digits each at least, but no more than sixteen.
+// Bytes in hexadecimal, in upper case, with so many digits each at least.
 pub fn put_each(page: &mut Page, bytes: &[u8], width: usize)
-    ensures { page.new.bytes.ghost_name ≡ page.old.bytes.ghost_name }
+    ensures same_buffer { page.new.bytes.ghost_name ≡ page.old.bytes.ghost_name }
+    ensures put { shown page.new ≡ puts_of (hexes_of width bytes.now) (shown page.old) }
 {
     for b in bytes {
         put_hex(page, *b, width);
@@ -47,7 +58,8 @@ pub fn put_each(page: &mut Page, bytes: &[u8], width: usize)
 
 // Bytes in hexadecimal, two digits each.
 pub fn put_bytes(page: &mut Page, bytes: &[u8])
-    ensures { page.new.bytes.ghost_name ≡ page.old.bytes.ghost_name }
+    ensures same_buffer { page.new.bytes.ghost_name ≡ page.old.bytes.ghost_name }
+    ensures put { shown page.new ≡ puts_of (hexes_of 2 bytes.now) (shown page.old) }
 {
     put_each(page, bytes, 2);
 }
@@ -73,5 +85,25 @@ pub fn flush_full(page: &mut Page)
 {
     if page.is_half_full() {
         flush(page);
+    }
+}
+
+#[cfg(test)]
+mod tests {
+    use super::*;
+
+    // As many digits as are asked for, above sixteen too, and both of a byte that needs them.
+    #[test]
+    fn digits_by_width(rt: HostRuntime) {
+        let mut buffer = [0; 64];
+        let mut page = Page::begun(&mut buffer, 0);
+        put_each(&mut page, &[0xA5, 0x0B], 20);
+        put_each(&mut page, &[0xA5, 0x0B], 1);
+        put_each(&mut page, &[0xA5, 0x0B], 0);
+        put_bytes(&mut page, &[0xA5, 0x0B]);
+        assert_eq!(rt;
+            page.written(),
+            b"000000000000000000A50000000000000000000BA5BA5BA50B".as_slice()
+        );
     }
 }
