@@ -3,7 +3,7 @@
 #![tactic(auto)]
 
 use against_input::{Cut, play, take, take_head};
-use against_probes::{Left, Lent, Probe, begun, called, put_line};
+use against_probes::{Left, Lent, Probe, admitted, called, put_line};
 use bench_columns::room;
 use parts::LARGEST_MEMORY;
 use text::{Page, flush_full};
@@ -18,7 +18,7 @@ fn turn(page: &mut Page, k: u64, left: &mut Option<Left>, lent: Lent) -> Result<
         return Ok(false);
     };
     let p = Probe::try_from(head)?;
-    let from = begun(p, *left)?;
+    let from = admitted(p, *left)?;
     let t = lent.imaged(from.image)?;
     if !p.is_next {
         take(t.image)?;

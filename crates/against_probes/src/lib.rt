@@ -2,6 +2,9 @@
 // spell, and the line with all that it left. A probe may go on from what the one before it left.
 #![tactic(auto)]
 
+ghost use Rattle.std.specs.Prelude.{◌≡◌, ok_or};
+ghost use Rattle.against_probes.specs.Probes.{begins, callable, admits};
+
 use against_columns::call_columns;
 use against_input::Cut;
 use bench_columns::{digest_column, fill_by};
@@ -141,7 +144,10 @@ impl TryFrom<[u8; 32]> for Probe {
 
 // What a probe goes by: what its lengths say, or what the one before it left. One that goes on has something to go on from, brings
 // no image of its own, and is lent no more than there is.
-fn from_of(p: Probe, left: Option<Left>) -> Option<Left> {
+#[tactic(auto, unfolding(crate::specs::Probes::begins))]
+fn from_of(p: Probe, left: Option<Left>) -> Option<Left>
+    ensures { result ≡ begins p left }
+{
     let l = p.lengths;
     if p.is_next {
         left.filter(|f| l.image == 0 && l.memory <= f.memory && l.area <= f.area)
@@ -154,8 +160,17 @@ fn from_of(p: Probe, left: Option<Left>) -> Option<Left> {
     }
 }
 
+// What a probe begins with and leaves to the next one, whether there is its call or not.
+pub fn begun(p: Probe, left: Option<Left>) -> Result<Left, Cut>
+    ensures { result ≡ ok_or (begins p left) (record {}) }
+{
+    from_of(p, left).ok_or(Cut)
+}
+
 // Whether there is its call: over a record the image has the length of one, and a fresh chip's identities are among the samples.
-fn is_callable(p: Probe, image: usize) -> bool {
+fn is_callable(p: Probe, image: usize) -> bool
+    ensures { result ≡ callable p.call p.lengths image }
+{
     let l = p.lengths;
     match p.call {
         Call::OverRecord(_) => image == IMAGE,
@@ -164,9 +179,11 @@ fn is_callable(p: Probe, image: usize) -> bool {
     }
 }
 
-// What a probe begins with and leaves to the next one. It is known by its head whether it can be called: nothing is taken for one that
-// cannot.
-pub fn begun(p: Probe, left: Option<Left>) -> Result<Left, Cut> {
+// The same of a probe that can be called. That is known by its head: nothing more is taken for one that cannot.
+#[tactic(auto, unfolding(crate::specs::Probes::admits))]
+pub fn admitted(p: Probe, left: Option<Left>) -> Result<Left, Cut>
+    ensures { result ≡ ok_or (admits p left) (record {}) }
+{
     from_of(p, left)
         .filter(|from| is_callable(p, from.image))
         .ok_or(Cut)
@@ -283,7 +300,7 @@ fn fresh(part: Part, p: Probe, samples: &[u8], image: &mut [u8]) -> Reply {
 }
 
 // A call on what is filled, or on what was left. Over an image of another length there is no record, and a fresh chip needs its identities
-// among the samples: 3 (no probe that has `begun` comes to this). What is lent is taken apart and handed back: Rattle knows no read of
+// among the samples: 3 (no probe that is `admitted` comes to this). What is lent is taken apart and handed back: Rattle knows no read of
 // one field while another one of the same loan is lent on.
 pub fn called<'a>(p: Probe, mut t: Lent<'a>) -> (Reply, Lent<'a>) {
     fill_lent(p, &mut t);
@@ -328,4 +345,55 @@ pub fn put_line(page: &mut Page, k: u64, r: Reply, t: &Lent) {
     digest_column(page, t.area);
     digest_column(page, t.output);
     writeln!(page);
+}
+
+#[cfg(test)]
+mod tests {
+    use super::*;
+
+    // A call of the device over a record, with an image of so many bytes.
+    fn over_record(image: u8, is_next: u8) -> [u8; 32] {
+        let mut head = [0; 32];
+        head[0] = 1;
+        head[1] = is_next;
+        head[4] = 16;
+        head[8] = 8;
+        head[20] = image;
+        head
+    }
+
+    fn begins(head: [u8; 32], left: Option<Left>) -> Option<(usize, usize, usize)> {
+        let from = begun(Probe::try_from(head).ok()?, left).ok()?;
+        Some((from.image, from.memory, from.area))
+    }
+
+    fn is_admitted(head: [u8; 32], left: Option<Left>) -> bool {
+        Probe::try_from(head).is_ok_and(|p| admitted(p, left).is_ok())
+    }
+
+    // A probe begins with what its own lengths say, whether an image of them has a record or not. It is admitted where it has.
+    #[test]
+    fn begins_with_its_own(rt: HostRuntime) {
+        assert_eq!(rt; begins(over_record(128, 0), None), Some((128, 16, 8)));
+        assert_eq!(rt; begins(over_record(5, 0), None), Some((5, 16, 8)));
+        assert!(rt; is_admitted(over_record(128, 0), None));
+        assert!(rt; !is_admitted(over_record(5, 0), None));
+    }
+
+    // One that goes on begins with what was left, and brings no image.
+    #[test]
+    fn goes_on(rt: HostRuntime) {
+        let left = Left {
+            image: 128,
+            memory: 32,
+            area: 8,
+        };
+        let less = Left { memory: 15, ..left };
+        assert_eq!(rt; begins(over_record(0, 1), Some(left)), Some((128, 32, 8)));
+        assert!(rt; is_admitted(over_record(0, 1), Some(left)));
+        assert_eq!(rt; begins(over_record(0, 1), Some(less)), None);
+        assert_eq!(rt; begins(over_record(128, 1), Some(left)), None);
+        assert_eq!(rt; begins(over_record(0, 1), None), None);
+        assert!(rt; !is_admitted(over_record(0, 1), None));
+    }
 }
