@@ -16,7 +16,7 @@ left_by l = record { image = l.image; memory = l.memory; area = l.area }
 abbrev pub may_go_on : Lengths → Left → Bool
 may_go_on l f = eqb l.image 0 && (leb l.memory f.memory && leb l.area f.area)
 
--- what a probe begins with and leaves, where it does not go on or may
+-- what a probe begins with and leaves: its own, or what was left, where it goes on and may
 unfoldable pub begins : Probe → Option Left → Option Left
 begins p left = cond p.is_next (option_and_then (λ f. then_some (may_go_on p.lengths f) f) left) (Some (left_by p.lengths))
 

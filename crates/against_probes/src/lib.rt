@@ -351,8 +351,8 @@ pub fn put_line(page: &mut Page, k: u64, r: Reply, t: &Lent) {
 mod tests {
     use super::*;
 
-    // A call of the device over a record, with an image of so many bytes.
-    fn over_record(image: u8, is_next: u8) -> [u8; 32] {
+    // The head of a transaction over a record: an image of so many bytes, 16 bytes of memory and 8 of area.
+    fn head_of(image: u8, is_next: u8) -> [u8; 32] {
         let mut head = [0; 32];
         head[0] = 1;
         head[1] = is_next;
@@ -362,7 +362,7 @@ mod tests {
         head
     }
 
-    fn begins(head: [u8; 32], left: Option<Left>) -> Option<(usize, usize, usize)> {
+    fn lengths_begun(head: [u8; 32], left: Option<Left>) -> Option<(usize, usize, usize)> {
         let from = begun(Probe::try_from(head).ok()?, left).ok()?;
         Some((from.image, from.memory, from.area))
     }
@@ -374,10 +374,10 @@ mod tests {
     // A probe begins with what its own lengths say, whether an image of them has a record or not. It is admitted where it has.
     #[test]
     fn begins_with_its_own(rt: HostRuntime) {
-        assert_eq!(rt; begins(over_record(128, 0), None), Some((128, 16, 8)));
-        assert_eq!(rt; begins(over_record(5, 0), None), Some((5, 16, 8)));
-        assert!(rt; is_admitted(over_record(128, 0), None));
-        assert!(rt; !is_admitted(over_record(5, 0), None));
+        assert_eq!(rt; lengths_begun(head_of(128, 0), None), Some((128, 16, 8)));
+        assert_eq!(rt; lengths_begun(head_of(5, 0), None), Some((5, 16, 8)));
+        assert!(rt; is_admitted(head_of(128, 0), None));
+        assert!(rt; !is_admitted(head_of(5, 0), None));
     }
 
     // One that goes on begins with what was left, and brings no image.
@@ -389,11 +389,14 @@ mod tests {
             area: 8,
         };
         let less = Left { memory: 15, ..left };
-        assert_eq!(rt; begins(over_record(0, 1), Some(left)), Some((128, 32, 8)));
-        assert!(rt; is_admitted(over_record(0, 1), Some(left)));
-        assert_eq!(rt; begins(over_record(0, 1), Some(less)), None);
-        assert_eq!(rt; begins(over_record(128, 1), Some(left)), None);
-        assert_eq!(rt; begins(over_record(0, 1), None), None);
-        assert!(rt; !is_admitted(over_record(0, 1), None));
+        assert_eq!(rt;
+            lengths_begun(head_of(0, 1), Some(left)),
+            Some((128, 32, 8))
+        );
+        assert!(rt; is_admitted(head_of(0, 1), Some(left)));
+        assert_eq!(rt; lengths_begun(head_of(0, 1), Some(less)), None);
+        assert_eq!(rt; lengths_begun(head_of(128, 1), Some(left)), None);
+        assert_eq!(rt; lengths_begun(head_of(0, 1), None), None);
+        assert!(rt; !is_admitted(head_of(0, 1), None));
     }
 }
